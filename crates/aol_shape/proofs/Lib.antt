@@ -1,0 +1,5 @@
+pub mod Points
+pub mod Rows
+pub mod Sizes
+pub mod Stuck
+pub mod Steps

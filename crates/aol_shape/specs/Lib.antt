@@ -1,0 +1,10 @@
+pub mod Lists
+pub mod Numbers
+pub mod Shape
+pub mod Joined
+pub mod Laws
+pub mod Vectors
+pub mod Texts
+pub mod Tokens
+pub mod Grammar
+pub mod Machine

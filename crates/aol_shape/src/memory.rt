@@ -1,0 +1,11 @@
+use std::alloc::AllocError;
+
+/// Want of memory: the one answer that no clause ties to a cause.
+#[derive(Clone, Copy, Debug, PartialEq, Eq)]
+pub struct NoMemory;
+
+impl From<AllocError> for NoMemory {
+    fn from(_: AllocError) -> NoMemory {
+        NoMemory
+    }
+}

@@ -1,0 +1,7 @@
+pub mod Addresses
+pub mod Entries
+pub mod Extends
+pub mod Made
+pub mod Narrowed
+pub mod Ranked
+pub mod Rows

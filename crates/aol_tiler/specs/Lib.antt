@@ -1,0 +1,4 @@
+pub mod Matrices
+pub mod Tiler
+pub mod Sums
+pub mod Makers

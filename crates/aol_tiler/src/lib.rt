@@ -1,0 +1,10 @@
+//! Tilers, which say the element of an array that a repetition's pattern element is.
+#![tactic(auto)]
+
+mod columns;
+mod shared;
+mod sums;
+mod tiler;
+
+pub use shared::types_are_shared;
+pub use tiler::{IntMat, Tiler, TilerRefused};

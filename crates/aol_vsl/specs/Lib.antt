@@ -1,0 +1,6 @@
+pub mod Text
+pub mod Reading
+pub mod Answers
+pub mod Passing
+pub mod Number
+pub mod Writing

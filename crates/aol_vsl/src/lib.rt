@@ -1,0 +1,25 @@
+//! Texts of shapes, vectors and tilers.
+#![tactic(auto)]
+
+mod laws;
+mod lexeme;
+mod matrix;
+mod number;
+mod recognizer;
+mod refused;
+mod tiler;
+mod vector;
+mod writing;
+
+pub use laws::{
+    shapes_are_read_again, shapes_are_read_right, shapes_have_one_reading, tilers_are_read_right,
+    tilers_have_one_reading, vectors_are_read_again, vectors_are_read_right,
+    vectors_have_one_reading,
+};
+pub use refused::VslRefused;
+pub use tiler::read_tiler;
+pub use vector::{read_shape, read_vector};
+pub use writing::{write_shape, write_tiler, write_vector};
+
+#[cfg(test)]
+mod tests;

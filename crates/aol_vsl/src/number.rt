@@ -1,0 +1,83 @@
+//! Numbers in texts, and the limits that they pass.
+
+ghost use Rattle.std.specs.Prelude.{◌≡◌, true, false, Some, None, MatchOption, MatchResult, nat_abs, ◌≤◌, ◌<◌, ◌^◌};
+ghost use Rattle.aol_shape.specs.Texts.{is_numeral, numeral_value, are_digits, digits_value};
+ghost use Rattle.aol_vsl.specs.Text.{vector_limit, shape_limit};
+ghost use Rattle.aol_vsl.specs.Number.{number_value};
+
+use crate::recognizer::is_digit;
+use aol_shape::LimitName;
+
+/// The most entries of a vector or a shape.
+const MAX_RANK: usize = 12;
+
+/// The sign and the magnitude of a numeral.
+#[derive(Clone, Copy)]
+pub(crate) struct Number {
+    negative: bool,
+    magnitude: u64,
+}
+
+/// The number that 1 to 19 digits say; none for any other text.
+fn magnitude_of(digits: &[u8]) -> Option<u64>
+    ensures { MatchOption result (are_digits digits.now ≡ false) (λ n. (are_digits digits.now ≡ true) × (n ≡ digits_value digits.now)) }
+{
+    if digits.is_empty() || digits.len() > 19 {
+        return None;
+    }
+    let mut value = 0u64;
+    for byte in digits {
+        if !is_digit(*byte) {
+            return None;
+        }
+        value = 10 * value + u64::from(*byte - b'0');
+    }
+    Some(value)
+}
+
+/// The number that a numeral says; none for any other text.
+pub(crate) fn number_of(text: &[u8]) -> Option<Number>
+    ensures { MatchOption result (is_numeral text.now ≡ false) (λ n. (is_numeral text.now ≡ true) × (number_value n ≡ numeral_value text.now)) }
+{
+    match text.split_first() {
+        Some((b'-', digits)) => Some(Number {
+            negative: true,
+            magnitude: magnitude_of(digits)?,
+        }),
+        _ => Some(Number {
+            negative: false,
+            magnitude: magnitude_of(text)?,
+        }),
+    }
+}
+
+/// The number as a vector's entry behind so many others, or the first limit that it passes there.
+pub(crate) fn vector_entry(number: Number, count: usize) -> Result<i32, LimitName>
+    ensures { MatchResult result (λ e. (vector_limit count (number_value number) ≡ None) × (e ≡ number_value number)) (λ name. vector_limit count (number_value number) ≡ Some name) }
+{
+    if count >= MAX_RANK {
+        Err(LimitName::Rank)
+    } else if number.magnitude > 2147483647 {
+        Err(LimitName::Entry)
+    } else if number.negative {
+        Ok(-(number.magnitude as i32))
+    } else {
+        Ok(number.magnitude as i32)
+    }
+}
+
+/// The number as a shape's entry behind so many others with so many points, or the first limit that it passes there.
+pub(crate) fn shape_entry(number: Number, count: usize, points: u64) -> Result<u32, LimitName>
+    requires { points ≤ 4194304 }
+    ensures { MatchResult result (λ e. (shape_limit count points (number_value number) ≡ None) × (e ≡ nat_abs (number_value number))) (λ name. shape_limit count points (number_value number) ≡ Some name) }
+{
+    if count >= MAX_RANK {
+        Err(LimitName::Rank)
+    } else if number.negative || number.magnitude < 1 || number.magnitude > 4194304 {
+        Err(LimitName::Entry)
+    } else if points * number.magnitude > 4194304 {
+        Err(LimitName::Points)
+    } else {
+        Ok(number.magnitude as u32)
+    }
+}

@@ -1,0 +1,9 @@
+//! Links between the repetitions of one task.
+#![tactic(auto)]
+
+mod link;
+mod shared;
+mod steps;
+
+pub use link::{Choice, Fallback, Interlink, When};
+pub use shared::types_are_shared;

@@ -1,0 +1,18 @@
+use Rattle.std.proofs.Common.{◌≡◌, Ok, sym, subst, rules}
+use Rattle.serde_json.specs.View.{view}
+use Rattle.aol_model.specs.Reading.{document_in}
+use Rattle.aol_cli.specs.Answer.{TreeAnswers, DocumentAnswers, document}
+use Rattle.aol_cli.proofs.answer.tree_reply.Goals as goal
+use Rattle.aol_cli.proofs.Replies.{carried, wrong_form_told, text_limit_told}
+
+pub returns-in-Ok : goal.returns-in-Ok
+returns-in-Ok c =
+    let is : document_in (view c.args.tree.now) ≡ Ok c.in-Ok.document = search rules in
+    carried (DocumentAnswers c.args.command c.in-Ok.document) (TreeAnswers c.args.command (document_in (view c.args.tree.now))) c.document_reply.result
+    (λ x p. subst (λ d. TreeAnswers c.args.command d x) (sym is) (document c.in-Ok.document x p)) c.document_reply.ensures
+
+pub returns-in-Err-Grammar : goal.returns-in-Err-Grammar
+returns-in-Err-Grammar c = wrong_form_told c.args.command (document_in (view c.args.tree.now)) c.grammar_reply.result _ c.grammar_reply.ensures.code c.grammar_reply.ensures.text (search rules)
+
+pub returns-in-Err-Limit : goal.returns-in-Err-Limit
+returns-in-Err-Limit c = text_limit_told c.args.command (document_in (view c.args.tree.now)) c.limit_reply.result _ _ c.limit_reply.ensures.code c.limit_reply.ensures.text (search rules)

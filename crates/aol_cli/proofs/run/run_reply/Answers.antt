@@ -1,0 +1,15 @@
+use Rattle.std.proofs.Common.{◌≡◌, ◌∙◌, ap, rules}
+use Rattle.aol_flat.specs.Tasks.{elementary_number}
+use Rattle.aol_flat.specs.Inputs.{numbers_for}
+use Rattle.aol_cli.proofs.RunReplies.{lines-matched, fault-matched}
+use Rattle.aol_cli.proofs.run.run_reply.Goals as goal
+
+pub returns-in-Ok : goal.returns-in-Ok
+returns-in-Ok c =
+    lines-matched c.args.model.now c.args.task.now c.args.inputs.now c.requires.main c.requires.agree c.requires.fit c.number_of-number.result c.as_slice-3.result.now _ c.in-Ok.text
+    (search rules) (search rules) c.in-Ok.is c.in_ok-text.ensures
+
+pub returns : goal.returns
+returns c =
+    fault-matched c.args.model.now c.args.task.now c.args.inputs.now c.requires.main c.requires.agree c.requires.fit c.number_of-number.result c.as_slice-3.result.now _ c.in-Err.site _
+    (search rules) (search rules) c.in-Err.is c.in_ok-text.ensures c.in_ok-fault_line-in-Err.ensures

@@ -1,0 +1,9 @@
+pub mod Words
+pub mod Reply
+pub mod Inputs
+pub mod Lent
+pub mod Run
+pub mod Outputs
+pub mod Faults
+pub mod Answer
+pub mod Answered

@@ -1,0 +1,23 @@
+-- What a run prints.
+use Rattle.std.specs.Prelude.{◌≡◌, List, Option, Some, None}
+use Rattle.aol_expr.specs.declared.value.Site.{Site}
+use Rattle.aol_model.specs.declared.document.Model.{Model}
+use Rattle.aol_model.specs.declared.job.InputArray.{InputArray}
+use Rattle.aol_flat.specs.InstanceValue.{first_fault}
+use Rattle.aol_flat.specs.Equation.{Valuation, IsSolution}
+use Rattle.aol_flat.specs.Printed.{output_lines, main_values, fault_line}
+use Rattle.aol_cli.specs.Reply.{ReplyOf, reply}
+
+-- the line of the first fault, where there is one; else the lines of the main outputs
+abbrev pub fault_or_lines : Model → Valuation → Option Site → ReplyOf
+fault_or_lines m v (Some s) = reply 16 (fault_line m s)
+fault_or_lines m v None = reply 0 (output_lines m v)
+
+-- what a solution prints: its first fault among the main outputs, by port and rank, or all of them
+abbrev pub run_reply : Model → Valuation → ReplyOf
+run_reply m v = fault_or_lines m v (first_fault (main_values m v))
+
+-- there is a solution, and this is what every solution prints
+pub record IsRunReply (m : Model) (inputs : List InputArray) (r : ReplyOf) : Type 0 where
+  pub exists : (v : Valuation) × IsSolution m inputs v
+  pub of_every : (v : Valuation) → IsSolution m inputs v → r ≡ run_reply m v

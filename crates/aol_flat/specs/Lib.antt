@@ -1,0 +1,9 @@
+pub mod Tasks
+pub mod Place
+pub mod Inputs
+pub mod InstanceValue
+pub mod Equation
+pub mod Need
+pub mod Unique
+pub mod ElementaryMain
+pub mod Printed

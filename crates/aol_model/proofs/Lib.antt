@@ -1,0 +1,10 @@
+pub mod Rows
+pub mod Readable
+pub mod Elements
+pub mod Tasks
+pub mod Hooks
+pub mod SameNames
+pub mod Walks
+pub mod PortNames
+pub mod Choices
+pub mod Crossing

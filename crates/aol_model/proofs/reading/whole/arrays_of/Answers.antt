@@ -1,0 +1,17 @@
+use Rattle.std.proofs.Common.{◌≡◌, length, ap, ◌∙◌, arith}
+use Rattle.std.proofs.lemmas.Grind.{common_steps}
+use Rattle.aol_model.specs.Types.{IsInputArray}
+use Rattle.aol_model.specs.Places.{to_index}
+use Rattle.aol_model.proofs.Elements.{arrays_more, kept_more}
+use Rattle.aol_model.proofs.reading.whole.arrays_of.Goals as goal
+
+pub loop-name-preserved : goal.loop-name-preserved
+loop-name-preserved c =
+    let left = c.in-Some.ensures.steps in
+    let pushed = c.in_ok-push.ensures.ok in
+    let place : c.to_index-place.result ≡ to_index c.args.at.now (length c.loop-name.arrays) = c.to_index-place.ensures ∙ ap (λ n. to_index c.args.at.now n) c.len-in-loop-name.ensures in
+    record {
+      count = grind (arith, common_steps);
+      read = arrays_more c.args.at.now c.to_index-place.result c.loop-name.arrays c.push.new.self c.loop-name.name-iterator c.next.new.self c.in-Some.name.now c.in-Some.nums.now c.in_ok-array.array _ left pushed place (rw c.as_str.ensures.value at c.in_ok-array.ensures.read) c.loop-name.invariant.read;
+      types = rw pushed (kept_more IsInputArray c.loop-name.arrays c.in_ok-array.array c.loop-name.invariant.types c.in_ok-array.ensures.types);
+    }

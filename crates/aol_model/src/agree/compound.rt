@@ -1,0 +1,306 @@
+ghost use Rattle.std.specs.Prelude.{◌≡◌, ◌<◌, ◌∷◌, [], ◌&&◌, length};
+ghost use Rattle.std.specs.List.{list_any};
+ghost use Rattle.std.specs.Option.{option_copied};
+ghost use Rattle.aol_shape.specs.Lists.{same};
+ghost use Rattle.aol_model.specs.Rules.{same_part, same_hook, part_named, from_shape, to_shape, is_fed, is_new_part, gives, takes, meets_part, joins_equal, hands_up, hands_up_once, source_fits, target_fits, part_is_fed, output_is_fed, part_checks, plain_checks, copied_checks, check, compound_checks};
+ghost use Rattle.aol_model.specs.Types.{IsCompound};
+ghost use Rattle.aol_model.specs.Walk.{Tells, part_list_checks, member_checks, fed_part_checks, fed_output_checks, graph_checks};
+
+use crate::agree::ports::{Inputs, Outputs, are_equal, are_same, fits_in, shape_of};
+use crate::agree::tasks::{Earlier, inputs_of};
+use crate::agree::walk::{MemberRules, require, test_each};
+use crate::document::Misfit;
+use crate::place::{Key, Path};
+use crate::task::{Compound, Copied, Hook, Part, Plain};
+use aol_expr::Port;
+use aol_shape::{Name, Shape};
+
+/// Whether both ends are at one part, or both are the compound's own.
+fn are_at_same(one: Option<&Name>, other: Option<&Name>) -> bool
+    ensures { result ≡ same_part (option_copied one.entry) (option_copied other.entry) }
+{
+    match one {
+        None => other.is_none(),
+        Some(one) => match other {
+            None => false,
+            Some(other) => are_same(one, other),
+        },
+    }
+}
+
+/// Whether an end is this port of this part, or the compound's own.
+fn is_at(hook: &Hook, part: Option<&Name>, port: &Name) -> bool
+    ensures { result ≡ same_hook hook.now (record { part = option_copied part.entry; port = port.now }) }
+{
+    are_at_same(hook.part.as_ref(), part) && are_same(&hook.port, port)
+}
+
+/// Whether two ends are the same.
+fn are_same_hooks(one: &Hook, other: &Hook) -> bool
+    ensures { result ≡ same_hook one.now other.now }
+{
+    is_at(one, other.part.as_ref(), &other.port)
+}
+
+/// Whether a link goes from a part's output to an own output.
+fn hands_up(link: &Plain) -> bool
+    ensures { result ≡ hands_up link.now }
+{
+    link.from.part.is_some() && link.to.part.is_none()
+}
+
+/// A compound behind the tasks that its parts can name.
+#[derive(Clone, Copy)]
+struct Graph<'a> {
+    earlier: Earlier<'a>,
+    compound: &'a Compound,
+}
+
+impl<'a> Graph<'a> {
+    fn part_named(&self, name: &Name) -> Option<&'a Part>
+        ensures { option_copied result ≡ part_named self.now.compound.now name.now }
+    {
+        self.compound
+            .parts
+            .as_slice()
+            .iter()
+            .find(|part| are_same(&part.name, name))
+    }
+
+    /// The shape of what an end gives: an own input, or an output of a part.
+    fn from_shape(&self, hook: &Hook) -> Option<&'a Shape>
+        ensures { option_copied result ≡ from_shape self.now.earlier.tasks.now self.now.compound.now hook.now }
+    {
+        match &hook.part {
+            None => shape_of(self.compound.ins.as_slice(), &hook.port),
+            Some(part) => {
+                let part = self.part_named(part)?;
+                self.earlier.output_shape(&part.task, &hook.port)
+            }
+        }
+    }
+
+    /// The shape of what an end takes: an own output, or an input of a part.
+    fn to_shape(&self, hook: &Hook) -> Option<&'a Shape>
+        ensures { option_copied result ≡ to_shape self.now.earlier.tasks.now self.now.compound.now hook.now }
+    {
+        match &hook.part {
+            None => shape_of(self.compound.outs.as_slice(), &hook.port),
+            Some(part) => {
+                let part = self.part_named(part)?;
+                self.earlier.input_shape(&part.task, &hook.port)
+            }
+        }
+    }
+
+    fn gives(&self, hook: &Hook) -> bool
+        ensures { result ≡ gives self.now.earlier.tasks.now self.now.compound.now hook.now }
+    {
+        self.from_shape(hook).is_some()
+    }
+
+    fn takes(&self, hook: &Hook) -> bool
+        ensures { result ≡ takes self.now.earlier.tasks.now self.now.compound.now hook.now }
+    {
+        self.to_shape(hook).is_some()
+    }
+
+    fn joins_equal(&self, link: &Plain) -> bool
+        ensures { result ≡ joins_equal self.now.earlier.tasks.now self.now.compound.now link.now }
+    {
+        are_equal(self.from_shape(&link.from), self.to_shape(&link.to))
+    }
+
+    fn source_fits(&self, reshape: &Copied) -> bool
+        ensures { result ≡ source_fits self.now.earlier.tasks.now self.now.compound.now reshape.now }
+    {
+        let by = &reshape.by;
+        fits_in(
+            &by.source,
+            self.from_shape(&reshape.from),
+            &by.space,
+            Some(&by.pattern),
+        )
+    }
+
+    fn target_fits(&self, reshape: &Copied) -> bool
+        ensures { result ≡ target_fits self.now.earlier.tasks.now self.now.compound.now reshape.now }
+    {
+        let by = &reshape.by;
+        fits_in(
+            &by.target,
+            self.to_shape(&reshape.to),
+            &by.space,
+            Some(&by.pattern),
+        )
+    }
+}
+
+/// Whether a part has this name.
+fn has_part(parts: &[Part], name: &Name) -> bool
+    ensures { result ≡ list_any (λ q. same q.name name.now) parts.now }
+{
+    parts.iter().any(|part| are_same(&part.name, name))
+}
+
+/// Whether no earlier part has the name.
+fn is_new_part(earlier: &[Part], part: &Part) -> bool
+    ensures { result ≡ is_new_part earlier.now part.now }
+{
+    !has_part(earlier, &part.name)
+}
+
+/// Whether one of the links hands this output of a part up.
+fn is_handed_up(links: &[Plain], from: &Hook) -> bool
+    ensures { result ≡ list_any (λ k. hands_up k && same_hook k.from from.now) links.now }
+{
+    links
+        .iter()
+        .any(|link| hands_up(link) && are_same_hooks(&link.from, from))
+}
+
+/// Whether no earlier link hands the same output up.
+fn hands_up_once(earlier: &[Plain], link: &Plain) -> bool
+    ensures { result ≡ hands_up_once earlier.now link.now }
+{
+    !hands_up(link) || !is_handed_up(earlier, &link.from)
+}
+
+impl MemberRules<Part> for Graph<'_> {
+    ghost checks = { λ s. part_checks s.earlier.tasks.now };
+
+    fn test(&self, at: &Path, earlier: &[Part], member: &Part) -> Result<(), Misfit> {
+        require(at.to_key(Key::KName), 4, is_new_part(earlier, member))?;
+        require(at.to_key(Key::KTask), 5, self.earlier.has(&member.task))
+    }
+}
+
+impl MemberRules<Plain> for Graph<'_> {
+    ghost checks = { λ s. plain_checks s.earlier.tasks.now s.compound.now };
+
+    fn test(&self, at: &Path, earlier: &[Plain], member: &Plain) -> Result<(), Misfit> {
+        require(at.to_key(Key::KFrom), 6, self.gives(&member.from))?;
+        require(at.to_key(Key::KTo), 7, self.takes(&member.to))?;
+        let meets_part = member.from.part.is_some() || member.to.part.is_some();
+        require(at.copy(), 8, meets_part)?;
+        require(at.copy(), 9, self.joins_equal(member))?;
+        require(at.copy(), 10, hands_up_once(earlier, member))
+    }
+}
+
+impl MemberRules<Copied> for Graph<'_> {
+    ghost checks = { λ s. copied_checks s.earlier.tasks.now s.compound.now };
+
+    fn test(&self, at: &Path, _: &[Copied], member: &Copied) -> Result<(), Misfit> {
+        require(at.to_key(Key::KFrom), 6, self.gives(&member.from))?;
+        require(at.to_key(Key::KTo), 7, self.takes(&member.to))?;
+        require(at.to_key(Key::KSource), 11, self.source_fits(member))?;
+        require(at.to_key(Key::KTarget), 11, self.target_fits(member))
+    }
+}
+
+/// What feeds the inputs of a compound's parts and its own outputs.
+#[derive(Drop)]
+struct Feeds<'a> {
+    graph: Graph<'a>,
+}
+
+impl Feeds<'_> {
+    /// Whether an end is fed by one plain link alone, or by reshapes alone.
+    fn is_fed(&self, part: Option<&Name>, port: &Name) -> bool
+        ensures { result ≡ is_fed self.now.graph.compound.now (record { part = option_copied part.entry; port = port.now }) }
+    {
+        let compound = self.graph.compound;
+        let links = compound
+            .links
+            .as_slice()
+            .iter()
+            .filter(|link| is_at(&link.to, part, port))
+            .count();
+        let reshapes = compound
+            .reshapes
+            .as_slice()
+            .iter()
+            .filter(|reshape| is_at(&reshape.to, part, port))
+            .count();
+        (links == 1 && reshapes == 0) || (links == 0 && reshapes >= 1)
+    }
+
+    fn part_is_fed(&self, part: &Part) -> bool
+        ensures { result ≡ part_is_fed self.now.graph.earlier.tasks.now self.now.graph.compound.now part.now }
+    {
+        match self.graph.earlier.named(&part.task) {
+            None => true,
+            Some(task) => inputs_of(task)
+                .iter()
+                .all(|port| self.is_fed(Some(&part.name), &port.name)),
+        }
+    }
+}
+
+impl MemberRules<Part> for Feeds<'_> {
+    ghost checks = { λ s. fed_part_checks s.graph.earlier.tasks.now s.graph.compound.now };
+
+    fn test(&self, at: &Path, _: &[Part], member: &Part) -> Result<(), Misfit> {
+        require(at.copy(), 12, self.part_is_fed(member))
+    }
+}
+
+impl MemberRules<Port> for Feeds<'_> {
+    ghost checks = { λ s. fed_output_checks s.graph.compound.now };
+
+    fn test(&self, at: &Path, _: &[Port], member: &Port) -> Result<(), Misfit> {
+        require(at.copy(), 13, self.is_fed(None, &member.name))
+    }
+}
+
+/// Tests the ports and the parts of a compound.
+#[tactic(auto, using(crate::proofs::Walks::passed, crate::proofs::Walks::failed))]
+fn test_parts(at: &Path, graph: &Graph) -> Result<(), Misfit>
+    requires depth { length at.now < 8 }
+    requires types { IsCompound graph.now.compound.now }
+    ensures { Tells result (part_list_checks graph.now.earlier.tasks.now at.now graph.now.compound.now) }
+{
+    let compound = graph.compound;
+    test_each(&Inputs, &at.to_key(Key::KIn), &compound.ins)?;
+    let outputs = Outputs { ins: &compound.ins };
+    test_each(&outputs, &at.to_key(Key::KOut), &compound.outs)?;
+    test_each(graph, &at.to_key(Key::KParts), &compound.parts)
+}
+
+/// Tests all members of a compound.
+#[tactic(auto, using(crate::proofs::Walks::passed, crate::proofs::Walks::failed))]
+fn test_members(at: &Path, graph: &Graph) -> Result<(), Misfit>
+    requires depth { length at.now < 8 }
+    requires types { IsCompound graph.now.compound.now }
+    ensures { Tells result (member_checks graph.now.earlier.tasks.now at.now graph.now.compound.now) }
+{
+    let compound = graph.compound;
+    test_parts(at, graph)?;
+    test_each(graph, &at.to_key(Key::KLinks), &compound.links)?;
+    test_each(graph, &at.to_key(Key::KReshapes), &compound.reshapes)
+}
+
+/// Tests the members of a compound, and then what feeds its parts and its outputs.
+#[tactic(auto, using(crate::proofs::Walks::passed, crate::proofs::Walks::failed))]
+fn test_graph(at: &Path, graph: &Graph) -> Result<(), Misfit>
+    requires depth { length at.now < 8 }
+    requires types { IsCompound graph.now.compound.now }
+    ensures { Tells result (graph_checks graph.now.earlier.tasks.now at.now graph.now.compound.now) }
+{
+    let compound = graph.compound;
+    test_members(at, graph)?;
+    let feeds = Feeds { graph: *graph };
+    test_each(&feeds, &at.to_key(Key::KParts), &compound.parts)?;
+    test_each(&feeds, &at.to_key(Key::KOut), &compound.outs)
+}
+
+/// Tests a graph of tasks behind the tasks that its parts can name.
+pub fn test_compound(at: &Path, earlier: Earlier, compound: &Compound) -> Result<(), Misfit>
+    requires depth { length at.now < 8 }
+    requires types { IsCompound compound.now }
+    ensures { Tells result (compound_checks earlier.entry.tasks.now at.now compound.now) }
+{
+    let graph = Graph { earlier, compound };
+    test_graph(at, &graph)
+}

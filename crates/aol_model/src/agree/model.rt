@@ -1,0 +1,71 @@
+ghost use Rattle.std.specs.Prelude.{◌≡◌, ◌<◌, None, Some, length, MatchResult, OnOk};
+ghost use Rattle.std.specs.List.{AllByRecursion};
+ghost use Rattle.aol_model.specs.Rules.{each, task_checks, checks, first_misfit, ShapesAgree};
+ghost use Rattle.aol_model.specs.Types.{IsCounted, IsTask, IsModel};
+ghost use Rattle.aol_model.specs.Walk.{Tells};
+
+use crate::agree::compound::test_compound;
+use crate::agree::elementary::test_elementary;
+use crate::agree::repeated::test_repeated;
+use crate::agree::tasks::{Earlier, name_of};
+use crate::agree::walk::require;
+use crate::document::{Misfit, Model};
+use crate::place::{Key, Path};
+use crate::task::Task;
+use aol_shape::Items;
+use std::alloc::Global;
+
+/// Tests a task behind the earlier ones.
+fn test_task(at: &Path, earlier: Earlier, task: &Task) -> Result<(), Misfit>
+    requires depth { length at.now < 8 }
+    requires types { IsTask task.now }
+    ensures { Tells result (task_checks at.now earlier.entry.tasks.now task.now) }
+{
+    let is_new = earlier.named(name_of(task)).is_none();
+    require(at.to_key(Key::KName), 1, is_new)?;
+    match task {
+        Task::Elementary(task) => test_elementary(at, task),
+        Task::Compound(task) => test_compound(at, earlier, task),
+        Task::Repeated(task) => test_repeated(at, earlier, task),
+    }
+}
+
+/// Tests each task of the list at the path, in order.
+fn test_tasks(at: &Path, tasks: &Items<Task>) -> Result<(), Misfit>
+    requires depth { length at.now < 7 }
+    requires types { AllByRecursion IsTask tasks.now }
+    requires count { IsCounted tasks.now }
+    ensures { Tells result (each task_checks at.now tasks.now) }
+{
+    let list = tasks.as_slice();
+    for (k, task) in list.iter().enumerate() {
+        let earlier = Earlier { tasks: &list[..k] };
+        test_task(&at.to_index(k as u32), earlier, task)?;
+    }
+    Ok(())
+}
+
+/// Tests the tasks of a model, and then that its main task is one of them.
+#[tactic(auto, using(crate::proofs::Walks::passed, crate::proofs::Walks::failed))]
+fn test_model(alloc: Global, model: &Model) -> Result<(), Misfit>
+    requires { IsModel model.now }
+    ensures { Tells result (checks model.now) }
+{
+    let at = Path::top(alloc).to_key(Key::KModel);
+    test_tasks(&at.to_key(Key::KTasks), &model.tasks)?;
+    let tasks = Earlier {
+        tasks: model.tasks.as_slice(),
+    };
+    require(at.to_key(Key::KMain), 23, tasks.has(&model.main))
+}
+
+/// Tests the rules on shapes and names, task by task in the order of the list and then `main`: nothing where all hold,
+/// else the first place at which one fails. It never answers want of memory.
+#[tactic(auto, using(crate::proofs::Walks::first_found, crate::proofs::Walks::all_hold))]
+pub fn shapes_agree(alloc: Global, model: &Model) -> Result<(), Misfit>
+    requires { IsModel model.now }
+    ensures first { MatchResult result (λ _. first_misfit model.now ≡ None) (λ m. first_misfit model.now ≡ Some m) }
+    ensures agree { OnOk result (ShapesAgree model.now) }
+{
+    test_model(alloc, model)
+}

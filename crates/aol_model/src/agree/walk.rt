@@ -1,0 +1,51 @@
+ghost use Rattle.std.specs.Prelude.{◌≡◌, ◌<◌, ◌^◌, ◌∷◌, [], List, length, true, false, OnOk, IfErr};
+ghost use Rattle.aol_model.specs.declared.place.PlaceStep.{PlaceStep};
+ghost use Rattle.aol_model.specs.Rules.{Check, check, each};
+ghost use Rattle.aol_model.specs.Walk.{Tells, misfit};
+
+use crate::document::Misfit;
+use crate::place::Path;
+use aol_shape::Items;
+
+/// A rule that holds at the place where the path ends, or else is the misfit.
+pub fn require(at: Path, rule: u32, holds: bool) -> Result<(), Misfit>
+    ensures tells { Tells result (check at rule holds ∷ []) }
+    ensures passes { OnOk result (holds ≡ true) }
+    ensures fails { IfErr result (λ m. (holds ≡ false) × (m ≡ misfit at rule)) }
+{
+    if holds {
+        Ok(())
+    } else {
+        Err(Misfit {
+            place: at.place(),
+            rule,
+        })
+    }
+}
+
+/// The rules that each member of a list keeps.
+pub trait MemberRules<T> {
+    ghost checks: { Self → List PlaceStep → List T → T → List Check };
+
+    /// Tests a member that stands at the path, behind the earlier ones.
+    fn test(&self, at: &Path, earlier: &[T], member: &T) -> Result<(), Misfit>
+        requires { length at.now < 10 }
+        ensures { Tells result (checks self.now at.now earlier.now member.now) };
+}
+
+/// Tests each member of the list at the path, in order.
+pub fn test_each<T, R: MemberRules<T>>(
+    rules: &R,
+    at: &Path,
+    members: &Items<T>,
+) -> Result<(), Misfit>
+    requires depth { length at.now < 9 }
+    requires count { length members.now < 2 ^ 32 }
+    ensures { Tells result (each (R.checks rules.now) at.now members.now) }
+{
+    let list = members.as_slice();
+    for (k, member) in list.iter().enumerate() {
+        rules.test(&at.to_index(k as u32), &list[..k], member)?;
+    }
+    Ok(())
+}

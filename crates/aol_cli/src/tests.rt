@@ -116,16 +116,41 @@ fn calls_end_as_they_must(rt: HostRuntime) -> Result<(), Fail> {
     let text = document(alloc, "Add", "\"a\":[1,2,3,4],\"b\":[10,20,30,40]", SUM)?;
     // the words, the bytes, the read and the write that fail, the status and what is written
     let cases = [
-        ("1", text.as_bytes(), 0, 2, 3, "y {2,"),
-        ("1", text.as_bytes(), 1, 0, 2, "read\n"),
-        ("1", b"{}".as_slice(), 0, 0, 7, "grammar $\n"),
-        ("1", b"".as_slice(), 0, 0, 6, "json\n"),
-        ("0", text.as_bytes(), 0, 0, 1, "words\n"),
-        ("65", text.as_bytes(), 0, 0, 1, "words\n"),
-        ("01", text.as_bytes(), 0, 0, 1, "words\n"),
+        (["run", "1"].as_slice(), text.as_bytes(), 0, 2, 3, "y {2,"),
+        (["run", "1"].as_slice(), text.as_bytes(), 2, 0, 2, "read\n"),
+        (
+            ["run", "1"].as_slice(),
+            b"{}".as_slice(),
+            0,
+            0,
+            7,
+            "grammar $\n",
+        ),
+        (["run", "1"].as_slice(), b"".as_slice(), 0, 0, 6, "json\n"),
+        ([].as_slice(), text.as_bytes(), 1, 0, 1, "words\n"),
+        (["run"].as_slice(), text.as_bytes(), 1, 0, 1, "words\n"),
+        (["run", "0"].as_slice(), text.as_bytes(), 1, 0, 1, "words\n"),
+        (["run", "2"].as_slice(), text.as_bytes(), 1, 0, 1, "words\n"),
+        (
+            ["run", "01"].as_slice(),
+            text.as_bytes(),
+            1,
+            0,
+            1,
+            "words\n",
+        ),
+        (
+            ["run", "1", "1"].as_slice(),
+            text.as_bytes(),
+            1,
+            0,
+            1,
+            "words\n",
+        ),
+        (["check"].as_slice(), text.as_bytes(), 1, 0, 1, "words\n"),
     ];
-    for (workers, bytes, failing_read, failing_write, status, written) in cases {
-        let (code, sink) = called(alloc, &["run", workers], bytes, failing_read, failing_write)?;
+    for (words, bytes, failing_read, failing_write, status, written) in cases {
+        let (code, sink) = called(alloc, words, bytes, failing_read, failing_write)?;
         assert_eq!(rt; sink.bytes(), written.as_bytes());
         assert_eq!(rt; code, status);
     }

@@ -30,6 +30,7 @@ mod steps;
 mod text;
 mod value;
 mod vars;
+mod writing;
 
 pub use cost::work;
 pub use evaluate::eval;
@@ -42,6 +43,7 @@ pub use resolution::Resolved;
 pub use shared::types_are_shared;
 pub use text::read_expr;
 pub use value::{Kind, Site, Val, Width};
+pub use writing::write_expr;
 
 #[cfg(test)]
 mod tests;

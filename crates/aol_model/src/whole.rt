@@ -1,5 +1,6 @@
-ghost use Rattle.std.specs.Prelude.{◌≡◌, IfOk, true, Ok};
+ghost use Rattle.std.specs.Prelude.{◌≡◌, IfOk, true, false, Ok};
 ghost use Rattle.serde_json.specs.View.{view};
+ghost use Rattle.serde_json.specs.Written.{has_float};
 ghost use Rattle.aol_model.specs.Reading.{document_in};
 ghost use Rattle.aol_model.specs.Readable.{IsReadable, ReadingShows};
 ghost use Rattle.aol_model.specs.Trees.{is_tree};
@@ -26,6 +27,7 @@ pub fn value_of(alloc: Global, model: &Model, job: &Job) -> Result<Value, NoMemo
     requires readable { IsReadable model.now job.now }
     ensures tree { IfOk result (λ v. view v ≡ document_tree model.now job.now) }
     ensures held { IfOk result (λ v. is_tree (view v) ≡ true) }
+    ensures whole { IfOk result (λ v. has_float (view v) ≡ false) }
     ensures again { IfOk result (λ v. document_in (view v) ≡ Ok (record { model = model.now; job = job.now })) }
 {
     let _ = alloc;

@@ -91,15 +91,15 @@ module _ {V : Type 0} (g : Grammar (List Numeral) (List V)) (no_whole : (ns : Li
 
 -- ---- vectors
 
-signed_all : (zs : List ℤ) → AllByRecursion IsVectorEntry zs → list_all is_numeral (map signed_decimal zs) ≡ true
+pub signed_all : (zs : List ℤ) → AllByRecursion IsVectorEntry zs → list_all is_numeral (map signed_decimal zs) ≡ true
 signed_all [] h = refl
 signed_all (z ∷ zs) h = and_from (is_numeral (signed_decimal z)) (list_all is_numeral (map signed_decimal zs)) (signed_numeral z h.0).0 (signed_all zs h.1)
 
-signed_values : (zs : List ℤ) → AllByRecursion IsVectorEntry zs → map numeral_value (map signed_decimal zs) ≡ zs
+pub signed_values : (zs : List ℤ) → AllByRecursion IsVectorEntry zs → map numeral_value (map signed_decimal zs) ≡ zs
 signed_values [] h = refl
 signed_values (z ∷ zs) h = ap (λ x. x ∷ map numeral_value (map signed_decimal zs)) (signed_numeral z h.0).1 ∙ ap (λ xs. z ∷ xs) (signed_values zs h.1)
 
-vector_passes : (k : ℕ) (z : ℤ) → k < 12 → nat_abs z ≤ 2147483647 → vector_limit k (numeral_value (signed_decimal z)) ≡ None
+pub vector_passes : (k : ℕ) (z : ℤ) → k < 12 → nat_abs z ≤ 2147483647 → vector_limit k (numeral_value (signed_decimal z)) ≡ None
 vector_passes k z h e =
     let entry : Option LimitName = cond (leb (nat_abs z) 2147483647) None (Some Entry) in
     ap (vector_limit k) (signed_numeral z e).1 ∙ ap (λ t. cond t (Some Rank) entry) (lt-leb 12 k h) ∙ ap (λ t. cond t None (Some Entry)) (le-leb (nat_abs z) 2147483647 e)

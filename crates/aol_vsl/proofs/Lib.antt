@@ -17,4 +17,5 @@ pub mod Spaced
 pub mod TilerGrammar
 pub mod TilerLexemes
 pub mod TilerWritten
+pub mod TilersAgain
 pub mod Written

@@ -3,8 +3,10 @@
 ghost use Rattle.std.specs.Prelude.{◌≡◌, ℕ, ℤ, List, Ok};
 ghost use Rattle.aol_shape.specs.Shape.{IsShape};
 ghost use Rattle.aol_shape.specs.Vectors.{IsVector};
+ghost use Rattle.aol_tiler.specs.Matrices.{TilerOf};
+ghost use Rattle.aol_tiler.specs.Tiler.{IsTiler};
 ghost use Rattle.aol_shape.specs.Grammar.{Reads, IsTextOf};
-ghost use Rattle.aol_vsl.specs.Text.{Numeral, WrittenTiler, shape_grammar, vector_grammar, tiler_grammar, shape_text, vector_text};
+ghost use Rattle.aol_vsl.specs.Text.{Numeral, WrittenTiler, shape_grammar, vector_grammar, tiler_grammar, shape_text, vector_text, tiler_text};
 ghost use Rattle.aol_vsl.specs.Reading.{shape_reading, vector_reading, tiler_reading};
 
 /// What reading a shape answers is right by the grammar of shapes, for every text.
@@ -25,6 +27,11 @@ pub fn shapes_are_read_again()
 /// The text of a vector is read as that vector.
 pub fn vectors_are_read_again()
     ensures { (vector : List ℤ) → IsVector vector → vector_reading (vector_text vector) ≡ Ok vector }
+{}
+
+/// The text of a tiler is read as that tiler.
+pub fn tilers_are_read_again()
+    ensures { (t : TilerOf) → IsTiler t → tiler_reading (tiler_text t) ≡ Ok t }
 {}
 
 /// A text spells one shape at most.

@@ -12,8 +12,8 @@ mod vector;
 mod writing;
 
 pub use laws::{
-    shapes_are_read_again, shapes_are_read_right, shapes_have_one_reading, tilers_are_read_right,
-    tilers_have_one_reading, vectors_are_read_again, vectors_are_read_right,
+    shapes_are_read_again, shapes_are_read_right, shapes_have_one_reading, tilers_are_read_again,
+    tilers_are_read_right, tilers_have_one_reading, vectors_are_read_again, vectors_are_read_right,
     vectors_have_one_reading,
 };
 pub use refused::VslRefused;

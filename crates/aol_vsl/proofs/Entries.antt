@@ -16,9 +16,10 @@ use Rattle.aol_shape.proofs.Stuck.{Stuck, stuck-is}
 use Rattle.aol_shape.proofs.Points.{size-append}
 use Rattle.aol_vsl.specs.Text.{Numeral, member, vector_limit, shape_limit, is_shape_entry, vector_members, shape_members, vector_grammar, shape_grammar}
 use Rattle.aol_vsl.specs.Reading.{Goal, numerals, vector_reading, shape_reading, recognizer, vector_goals}
+use Rattle.aol_vsl.specs.Walk.{walked}
 use Rattle.aol_vsl.proofs.Lexemes.{lexed}
 use Rattle.aol_vsl.proofs.Sound.{by_test}
-use Rattle.aol_vsl.proofs.Limits.{walk, walked, walked_ok, members, entries_reading}
+use Rattle.aol_vsl.proofs.Limits.{walk, walked_ok, members, entries_reading}
 
 abbrev pub same_number : ℤ → ℤ
 same_number z = z
@@ -47,7 +48,7 @@ shape_reading_is text e = entries_reading (λ s. shape_limit s.0 s.1) (λ s z. (
 
 -- ---- what is read is within the limits
 
-all_push : {X : Type 0} (P : X → Type 0) (xs : List X) (x : X) → AllByRecursion P xs → P x → AllByRecursion P (xs ++ x ∷ [])
+pub all_push : {X : Type 0} (P : X → Type 0) (xs : List X) (x : X) → AllByRecursion P xs → P x → AllByRecursion P (xs ++ x ∷ [])
 all_push P [] x h k = (k, tt)
 all_push P (y ∷ xs) x h k = (h.0, all_push P xs x h.1 k)
 
@@ -60,7 +61,7 @@ vector_limit_none k z h = by_test _ (leb 12 k) (λ e. cc) (λ e. by_test _ (leb 
 pub shape_limit_none : (k p : ℕ) (z : ℤ) → shape_limit k p z ≡ None → (k < 12) × (is_shape_entry z ≡ true) × (p * nat_abs z ≤ 4194304)
 shape_limit_none k p z h = by_test _ (leb 12 k) (λ e. cc) (λ e. by_test _ (is_shape_entry z) (λ f. by_test _ (leb (p * nat_abs z) 4194304) (λ i. (leb-false 12 k e, f, leb-true (p * nat_abs z) 4194304 i)) (λ i. cc)) (λ f. cc))
 
-vector_push : (vs : List ℤ) (z : ℤ) → vector_limit (length vs) z ≡ None → IsVector vs → IsVector (vs ++ z ∷ [])
+pub vector_push : (vs : List ℤ) (z : ℤ) → vector_limit (length vs) z ≡ None → IsVector vs → IsVector (vs ++ z ∷ [])
 vector_push vs z h v =
     let n : (length vs < 12) × (nat_abs z ≤ 2147483647) = vector_limit_none (length vs) z h in
     record { rank = omega (arith, n.0, length-append vs (z ∷ [])); entry = all_push IsVectorEntry vs z v.entry n.1 }

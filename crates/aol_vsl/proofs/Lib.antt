@@ -16,6 +16,8 @@ pub mod SoundTilers
 pub mod Spaced
 pub mod TilerGrammar
 pub mod TilerLexemes
+pub mod TilerWalk
 pub mod TilerWritten
 pub mod TilersAgain
+pub mod WalkSteps
 pub mod Written

@@ -11,6 +11,7 @@ use Rattle.aol_shape.specs.Grammar.{Grammar, TextFault, at, limit, Lexeme, start
 use Rattle.aol_shape.specs.Machine.{Machine, behind, ends, stuck_from, stuck_at, stuck_here}
 use Rattle.aol_vsl.specs.Text.{Numeral, member, vector_members, shape_members, vector_limit, shape_limit, vector_grammar, shape_grammar, vector_tokens, shape_tokens}
 use Rattle.aol_vsl.specs.Reading.{Goal, recognizer, vector_goals, vector_reading, shape_reading, numerals}
+use Rattle.aol_vsl.specs.Walk.{walked}
 use Rattle.aol_vsl.proofs.Spaced.{Spaced, texts, more_texts, first_texts, vector_texts}
 use Rattle.aol_vsl.proofs.Sound.{vector_sound}
 use Rattle.aol_vsl.proofs.Lexemes.{lexed, lexeme, placed, lexed_spaced, lexed_texts, vector_apart}
@@ -50,11 +51,6 @@ first_limit_is whole j (t ∷ ts) [] n h = absurd (omega (arith, n))
 first_limit_is whole j (t ∷ ts) (l ∷ ls) n h = started whole j ts l ls t.passes (h 0) (first_limit_is whole (j + 1) ts ls (omega (arith, n)) (λ i. ap (start_of whole) (omega arith) ∙ h (suc i)))
 
 -- ---- entries one after another
-
--- the limit that is passed here, or what comes later
-abbrev pub walked : {V : Type 0} → Option LimitName → ℕ → Result V TextFault → Result V TextFault
-walked None start later = later
-walked (Some name) start later = Err (limit start name)
 
 walked_is : {V : Type 0} (o : Option LimitName) (start : ℕ) (rest : Option (ℕ × LimitName)) (v : V) → walked o start (answer rest v) ≡ answer (or_else (option_map (λ name. (start, name)) o) rest) v
 walked_is None start rest v = refl

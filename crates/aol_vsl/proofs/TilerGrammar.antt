@@ -40,7 +40,7 @@ matrix_texts_are : (cs : List (List Numeral)) → texts (matrix_tokens cs) ≡ m
 matrix_texts_are [] = refl
 matrix_texts_are (c ∷ cs) = ap (λ ts. (123 ∷ []) ∷ ts) (columns_texts 0 c cs)
 
-four : (a b c d : List Token) → ((a ++ b) ++ c) ++ d ≡ a ++ (b ++ (c ++ d))
+pub four : (a b c d : List Token) → ((a ++ b) ++ c) ++ d ≡ a ++ (b ++ (c ++ d))
 four a b c d = simp append_assoc
 
 -- a tiler's tokens have its texts
@@ -61,7 +61,7 @@ tiler_texts_are w =
     ∙ ap (λ ts. matrix_texts w.paving ++ ((44 ∷ []) ∷ codes "fitting" ∷ (61 ∷ []) ∷ ts))
     (map-append (λ (t : Token). t.text) f e ∙ ap (λ ts. ts ++ (41 ∷ []) ∷ []) (matrix_texts_are w.fitting))))
 
-sound : (bytes : List ℕ) → accepts (recognizer tiler_goals) bytes ≡ true → IsText tiler_grammar bytes
+pub sound : (bytes : List ℕ) → accepts (recognizer tiler_goals) bytes ≡ true → IsText tiler_grammar bytes
 sound bytes h =
     let w : (w : WrittenTiler) × (is_written_tiler w ≡ true) × Spaced bytes (tiler_texts w) = tiler_sound bytes h in
     (w.0, record { well = w.1; spaced = from_spaced bytes (tiler_tokens w.0) (subst (Spaced bytes) (sym (tiler_texts_are w.0)) w.2) })
@@ -74,11 +74,11 @@ pub tiler_fails : (text : List ℕ) (byte : ℕ) → stuck_at (recognizer tiler_
 tiler_fails text byte e = stuck-fails (recognizer tiler_goals) (IsText tiler_grammar) sound complete (λ front gs h. live tiler_goals tt front gs h) text byte e
 
 -- the texts of a tiler that a text spells stand apart
-apart_of : (w : WrittenTiler) → is_written_tiler w ≡ true → Apart (texts (tiler_tokens w))
+pub apart_of : (w : WrittenTiler) → is_written_tiler w ≡ true → Apart (texts (tiler_tokens w))
 apart_of w h = subst Apart (sym (tiler_texts_are w)) (tiler_apart w h)
 
 -- the lexemes of a text write what it spells
-spelled_tiler : (bytes : List ℕ) (w : WrittenTiler) → IsTextOf tiler_grammar bytes w → written_tiler (lexed 0 bytes) ≡ w
+pub spelled_tiler : (bytes : List ℕ) (w : WrittenTiler) → IsTextOf tiler_grammar bytes w → written_tiler (lexed 0 bytes) ≡ w
 spelled_tiler bytes w t = written_is w t.well (lexed 0 bytes) (lexed_texts (tiler_texts w) (tiler_apart w t.well) 0 bytes (subst (Spaced bytes) (tiler_texts_are w) (to_spaced bytes (tiler_tokens w) t.spaced)))
 
 right_by : (text : List ℕ) (o : Option ℕ) → stuck_at (recognizer tiler_goals) text ≡ o → Reads tiler_grammar text (reading tiler_grammar o (lexed 0 text) written_tiler)

@@ -69,7 +69,7 @@ magnitude_low : (ds : List ℕ) (b : ℕ) (bs : List ℕ) → ds ≡ b ∷ bs �
 magnitude_low [] b bs e m = cc
 magnitude_low (d ∷ ds) b bs e m = let same_head : d ≡ b = cc in omega (arith, same_head, leb-true d 57 (and_parts (leb 48 d) (leb d 57) (and_parts (is_digit d) (list_all is_digit ds) m.each).0).1)
 
-numeral_low : (b : ℕ) (bs : List ℕ) → is_numeral (b ∷ bs) ≡ true → b ≤ 57
+pub numeral_low : (b : ℕ) (bs : List ℕ) → is_numeral (b ∷ bs) ≡ true → b ≤ 57
 numeral_low b bs h = by_test _ (eqb b 45)
     (λ e. omega (arith, eqb-true b 45 e))
     (λ e. magnitude_low (b ∷ bs) b bs refl (magnitude_of (b ∷ bs) (ap (λ t. are_digits (cond t bs (b ∷ bs))) (sym e) ∙ h)))

@@ -4,3 +4,4 @@ pub mod Answers
 pub mod Passing
 pub mod Number
 pub mod Writing
+pub mod Walk

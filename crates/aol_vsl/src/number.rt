@@ -2,14 +2,14 @@
 
 ghost use Rattle.std.specs.Prelude.{◌≡◌, true, false, Some, None, MatchOption, MatchResult, nat_abs, ◌≤◌, ◌<◌, ◌^◌};
 ghost use Rattle.aol_shape.specs.Texts.{is_numeral, numeral_value, are_digits, digits_value};
-ghost use Rattle.aol_vsl.specs.Text.{vector_limit, shape_limit};
+ghost use Rattle.aol_vsl.specs.Text.{vector_limit, column_limit, shape_limit};
 ghost use Rattle.aol_vsl.specs.Number.{number_value};
 
 use crate::recognizer::is_digit;
 use aol_shape::LimitName;
 
 /// The most entries of a vector or a shape.
-const MAX_RANK: usize = 12;
+pub(crate) const MAX_RANK: usize = 12;
 
 /// The sign and the magnitude of a numeral.
 #[derive(Clone, Copy)]
@@ -63,6 +63,17 @@ pub(crate) fn vector_entry(number: Number, count: usize) -> Result<i32, LimitNam
         Ok(-(number.magnitude as i32))
     } else {
         Ok(number.magnitude as i32)
+    }
+}
+
+/// The number as an entry of a matrix's column behind so many others, or the first limit that it passes there.
+pub(crate) fn column_entry(number: Number, count: usize, column: usize) -> Result<i32, LimitName>
+    ensures { MatchResult result (λ e. (column_limit column count (number_value number) ≡ None) × (e ≡ number_value number)) (λ name. column_limit column count (number_value number) ≡ Some name) }
+{
+    if column >= MAX_RANK {
+        Err(LimitName::Rank)
+    } else {
+        vector_entry(number, count)
     }
 }
 

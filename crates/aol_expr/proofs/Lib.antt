@@ -2,6 +2,23 @@ pub mod Bytewise
 pub mod Followed
 pub mod Powers
 pub mod Rows
+mod Gaps
+mod ByteKinds
+mod Operands
+mod OpenBrackets
+mod Contexts
+mod States
+mod SoundBrackets
+mod SoundOperands
+mod SoundNumbers
+mod SoundNames
+mod SoundSums
+mod Sound
+mod Lives
+mod Judged
+mod WordCases
+mod Live
+mod LiveModes
 mod Same
 mod Places
 mod Evaluation

@@ -6,14 +6,14 @@ use Rattle.std.proofs.Math.Nat.{mod-lt}
 use Rattle.aol_shape.specs.Vectors.{plus_columns, wrapped}
 use Rattle.aol_tiler.specs.Sums.{entry, entry_plus}
 use Rattle.aol_tiler.specs.Matrices.{TilerOf}
-use Rattle.aol_tiler.specs.Tiler.{has_entries, integers, place}
+use Rattle.aol_tiler.specs.Tiler.{Fits, has_entries, integers, place}
 use Rattle.aol_tiler.proofs.Entries.{long_enough, entry-plus_columns, length-plus_columns}
 
 pub wrapped-below : (z : ℤ) (n : ℕ) → 0 < n → wrapped z n < n
 wrapped-below (pos a) n h = mod-lt a h
 wrapped-below (negsuc a) n h = omega (arith, h)
 
-both : (a b : Bool) → (a && b) ≡ true → (a ≡ true) × (b ≡ true)
+pub both : (a b : Bool) → (a && b) ≡ true → (a ≡ true) × (b ≡ true)
 both true b h = (refl, h)
 both false b h = absurd (false≢true h)
 
@@ -50,3 +50,15 @@ length-place t n r i over =
     length-plus_columns (plus_columns t.origin t.paving (integers r)) t.fitting (integers i)
     ∙ length-plus_columns t.origin t.paving (integers r)
     ∙ (even t n over).origin
+
+-- what it says that a tiler fits
+pub record FitsParts (t : TilerOf) (array space pattern : List ℕ) : Type 0 where
+  pub over : has_entries t (length array) ≡ true
+  pub paving : length t.paving ≡ length space
+  pub fitting : length t.fitting ≡ length pattern
+
+pub fits-parts : (t : TilerOf) (array space pattern : List ℕ) → Fits t array space pattern → FitsParts t array space pattern
+fits-parts t array space pattern h =
+    let outer = both (has_entries t (length array) && length t.paving == length space) (length t.fitting == length pattern) h in
+    let inner = both (has_entries t (length array)) (length t.paving == length space) outer.0 in
+    record { over = inner.0; paving = eqb-true (length t.paving) (length space) inner.1; fitting = eqb-true (length t.fitting) (length pattern) outer.1 }

@@ -5,3 +5,4 @@ pub mod Made
 pub mod Narrowed
 pub mod Ranked
 pub mod Rows
+pub mod UnitColumns

@@ -12,7 +12,7 @@ use Rattle.aol_tiler.specs.Tiler.{first_out_of}
 use Rattle.aol_tiler.specs.Makers.{MakesVector}
 
 -- an entry in range is not the first one out, and another is
-first_out_of-in : (k : ℕ) (z : ℤ) (zs : List ℤ) → IsVectorEntry z → first_out_of k (z ∷ zs) ≡ first_out_of (k + 1) zs
+pub first_out_of-in : (k : ℕ) (z : ℤ) (zs : List ℤ) → IsVectorEntry z → first_out_of k (z ∷ zs) ≡ first_out_of (k + 1) zs
 first_out_of-in k z zs p = rw (le-leb (nat_abs z) max_entry p)
 
 first_out_of-out : (k : ℕ) (z : ℤ) (zs : List ℤ) → ¬ IsVectorEntry z → first_out_of k (z ∷ zs) ≡ Some k

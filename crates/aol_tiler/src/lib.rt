@@ -5,6 +5,7 @@ mod columns;
 mod shared;
 mod sums;
 mod tiler;
+mod units;
 
 pub use shared::types_are_shared;
 pub use tiler::{IntMat, Tiler, TilerRefused};

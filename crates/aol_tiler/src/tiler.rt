@@ -1,5 +1,6 @@
 use crate::columns::{ZEROS, combined, push_copies, push_mapped, push_scaled};
 use crate::sums::{entry_at, have_length, reduced};
+use crate::units::push_units;
 use aol_shape::{IntVec, Items, Shape};
 use std::alloc::{AllocError, Global};
 use std::marker::Model;
@@ -50,7 +51,7 @@ impl Tiler {
     ghost use Rattle.aol_shape.specs.Shape.{size};
     ghost use Rattle.aol_shape.specs.Vectors.{wrapped};
     ghost use Rattle.aol_tiler.specs.Sums.{entry};
-    ghost use Rattle.aol_tiler.specs.Tiler.{IsTiler, fits, place, address, composed, blocked, substituted};
+    ghost use Rattle.aol_tiler.specs.Tiler.{IsTiler, fits, place, address, composed, blocked, substituted, inner_of};
     ghost use Rattle.aol_tiler.specs.Makers.{Makes, IsNoEntry, AreComposable, IsBlockable, AreSubstitutable, IsAddressed};
 
     /// How many paving columns there are.
@@ -203,6 +204,29 @@ impl Tiler {
             place,
         )?;
         push_copies(alloc, &mut fitting, self.fitting.as_slice(), place)?;
+        Ok(Tiler {
+            origin,
+            paving,
+            fitting,
+        })
+    }
+
+    /// The tiler over both shapes joined: a repetition is a point of the first, a pattern element one of the second.
+    ///
+    /// Its origin is zero, paving has the unit columns of the first dimensions and fitting those of the last. It never answers `Entry`.
+    pub fn inner(alloc: Global, space: &Shape, pattern: &Shape) -> Result<Tiler, TilerRefused>
+        requires { length space.now + length pattern.now ≤ 12 }
+        ensures made { Makes result (inner_of space.now pattern.now) }
+        ensures fits { IsNoEntry result }
+    {
+        let (first, last) = (space.as_slice(), pattern.as_slice());
+        let Some(origin) = IntVec::new(alloc, &ZEROS[..first.len() + last.len()]) else {
+            unreachable!()
+        };
+        let mut paving = IntMat::new(alloc);
+        push_units(alloc, &mut paving, 0, first, last.len())?;
+        let mut fitting = IntMat::new(alloc);
+        push_units(alloc, &mut fitting, first.len(), last, 0)?;
         Ok(Tiler {
             origin,
             paving,

@@ -4,5 +4,9 @@ pub mod Extends
 pub mod Made
 pub mod Narrowed
 pub mod Ranked
+pub mod Residues
 pub mod Rows
+pub mod Started
 pub mod UnitColumns
+pub mod Walked
+pub mod Walks

@@ -2,3 +2,4 @@ pub mod Matrices
 pub mod Tiler
 pub mod Sums
 pub mod Makers
+pub mod Walk

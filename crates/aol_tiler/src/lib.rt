@@ -6,6 +6,8 @@ mod shared;
 mod sums;
 mod tiler;
 mod units;
+mod walker;
 
 pub use shared::types_are_shared;
 pub use tiler::{IntMat, Tiler, TilerRefused};
+pub use walker::Walker;

@@ -8,3 +8,4 @@ pub mod Walks
 pub mod PortNames
 pub mod Choices
 pub mod Crossing
+pub mod ReadTrees

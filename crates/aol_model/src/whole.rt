@@ -3,7 +3,7 @@ ghost use Rattle.serde_json.specs.View.{view};
 ghost use Rattle.serde_json.specs.Written.{has_float};
 ghost use Rattle.aol_model.specs.Reading.{document_in};
 ghost use Rattle.aol_model.specs.Readable.{IsReadable, ReadingShows};
-ghost use Rattle.aol_model.specs.Trees.{is_tree};
+ghost use Rattle.aol_model.specs.Trees.{is_tree, ReadTreesAreHeld};
 ghost use Rattle.aol_model.specs.Types.{IsModel, IsJob};
 ghost use Rattle.aol_model.specs.Writing.{document_tree};
 
@@ -16,6 +16,11 @@ use std::alloc::Global;
 /// A law: a document that was read from a tree is readable.
 pub fn reading_shows()
     ensures { ReadingShows }
+{}
+
+/// A law: what a JSON text reads as is a tree, with its keys in order and its numbers in range.
+pub fn read_trees_are_held()
+    ensures { ReadTreesAreHeld }
 {}
 
 /// The tree of a document, in version 2 and with canonical texts.

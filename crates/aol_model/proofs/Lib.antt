@@ -9,3 +9,4 @@ pub mod PortNames
 pub mod Choices
 pub mod Crossing
 pub mod ReadTrees
+pub mod Written

@@ -11,6 +11,7 @@ mod shared;
 mod status;
 mod task;
 mod whole;
+mod writing;
 
 pub use agree::shapes_agree;
 pub use document::{DocRefused, Document, Misfit, Model};
@@ -20,7 +21,8 @@ pub use reading::document_of;
 pub use shared::{documents_are_shared, types_are_shared};
 pub use status::limit_text;
 pub use task::{Compound, Copied, Elementary, Hook, OutPort, Part, Plain, Repeated, Task, TilerOn};
-pub use whole::{read_trees_are_held, reading_shows, value_of};
+pub use whole::{read_trees_are_held, reading_shows};
+pub use writing::value_of;
 
 #[cfg(test)]
 mod tests;

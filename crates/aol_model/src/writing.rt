@@ -1,0 +1,10 @@
+//! Writers of a document's tree, one for each form.
+
+mod job;
+mod ports;
+mod repeated;
+mod tasks;
+mod to_tree;
+mod whole;
+
+pub use whole::value_of;

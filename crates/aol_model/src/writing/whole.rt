@@ -1,0 +1,56 @@
+ghost use Rattle.std.specs.Prelude.{◌≡◌, IfOk, true, false};
+ghost use Rattle.serde_json.specs.View.{view};
+ghost use Rattle.serde_json.specs.Written.{has_float};
+ghost use Rattle.aol_model.specs.Readable.{IsReadable};
+ghost use Rattle.aol_model.specs.Trees.{IsWritten, is_tree};
+ghost use Rattle.aol_model.specs.Types.{IsModel, IsJob};
+ghost use Rattle.aol_model.specs.Writing.{model_tree, document_tree};
+
+use crate::document::Model;
+use crate::job::Job;
+use crate::place::Key;
+use crate::writing::job::inputs_of;
+use crate::writing::to_tree::{ToTree, object_of};
+use aol_shape::NoMemory;
+use serde_json::Value;
+use std::alloc::Global;
+
+impl ToTree for Model {
+    ghost tree = { model_tree };
+
+    fn to_tree(&self, alloc: Global) -> Result<Value, NoMemory> {
+        let tasks = self.tasks.to_tree(alloc)?;
+        let main = self.main.to_tree(alloc)?;
+        object_of(alloc, [(Key::KTasks, tasks), (Key::KMain, main)])
+    }
+}
+
+/// The tree of a document.
+fn document_of(alloc: Global, model: &Model, job: &Job) -> Result<Value, NoMemory>
+    ensures tree { IfOk result (λ v. view v ≡ document_tree model.now job.now) }
+    ensures written { IfOk result (λ v. IsWritten (view v)) }
+{
+    let members = [
+        (Key::KVersion, Value::from(2u32)),
+        (Key::KModel, model.to_tree(alloc)?),
+        (Key::KInput, inputs_of(alloc, job.input.as_slice())?),
+        (Key::KTransform, job.transform.to_tree(alloc)?),
+        (Key::KAllocate, job.allocate.to_tree(alloc)?),
+    ];
+    object_of(alloc, members)
+}
+
+/// The tree of a document, in version 2 and with canonical texts.
+///
+/// Model and job are within the types' limits and were read from trees. The tree has its keys in byte order, its
+/// numbers in 64 bits and no floats. Answers `NoMemory` only where memory is wanting.
+pub fn value_of(alloc: Global, model: &Model, job: &Job) -> Result<Value, NoMemory>
+    requires model { IsModel model.now }
+    requires job { IsJob job.now }
+    requires readable { IsReadable model.now job.now }
+    ensures tree { IfOk result (λ v. view v ≡ document_tree model.now job.now) }
+    ensures held { IfOk result (λ v. is_tree (view v) ≡ true) }
+    ensures whole { IfOk result (λ v. has_float (view v) ≡ false) }
+{
+    document_of(alloc, model, job)
+}

@@ -10,3 +10,10 @@ pub mod Choices
 pub mod Crossing
 pub mod ReadTrees
 pub mod Written
+pub mod AgainSteps
+pub mod AgainLists
+pub mod AgainTexts
+pub mod AgainTasks
+pub mod AgainLinks
+pub mod AgainJob
+pub mod Again

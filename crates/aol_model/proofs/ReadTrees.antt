@@ -100,7 +100,7 @@ mutual
   json_items json.no_items ds e = subst (λ t. are_items t ≡ true) (same_Some no_items ds e) refl
   json_items (json.item j js) ds e =
       option_and_then_some (λ d. option_map (item d) (of_items js)) (of_json j) ds e (λ d is next.
-        some_by (item d) (of_items js) ds (λ t. are_items t ≡ true) (λ more rest. both_true (json_tree j d is) (json_items js more rest)) next)
+      some_by (item d) (of_items js) ds (λ t. are_items t ≡ true) (λ more rest. both_true (json_tree j d is) (json_items js more rest)) next)
 
   json_members : (ms : json.Members) (found : Members) → are_members found ≡ true → (all : Members) → of_members ms found ≡ Some all → are_members all ≡ true
   json_members json.no_members found h all e = subst (λ t. are_members t ≡ true) (same_Some found all e) h

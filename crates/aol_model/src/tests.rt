@@ -141,7 +141,8 @@ const FIRST_VERSION: &str = "{\"model\":{\"tasks\":[\
     \"transform\":[{\"kind\":\"tile\",\"task\":\"R\",\"outer\":\"{2}\",\"block\":\"{1}\"}],\
     \"allocate\":[{\"leaf\":\"p\",\"processors\":\"{2}\",\"space\":\"{2}\",\"pattern\":\"{}\",\"from\":\"(origin={0},paving={{1}},fitting={})\",\"to\":\"(origin={0},paving={{1}},fitting={})\"}]}";
 
-const SECOND_VERSION: &str = "{\"allocate\":[{\"from\":\"(origin={0},paving={{1}},fitting={})\",\"leaf\":\"p\",\"pattern\":\"{}\",\"processors\":\"{2}\",\"space\":\"{2}\",\"to\":\"(origin={0},paving={{1}},fitting={})\"}],\
+const SECOND_VERSION: &str =
+    "{\"allocate\":[{\"from\":\"(origin={0},paving={{1}},fitting={})\",\"leaf\":\"p\",\"pattern\":\"{}\",\"processors\":\"{2}\",\"space\":\"{2}\",\"to\":\"(origin={0},paving={{1}},fitting={})\"}],\
     \"input\":{\"x\":[1,-2]},\"model\":{\"main\":\"M\",\"tasks\":[\
     {\"in\":[{\"name\":\"x\",\"shape\":\"{2}\"}],\"kind\":\"compound\",\"links\":[{\"from\":\"x\",\"to\":\"p.a\"},{\"from\":\"p.b\",\"to\":\"y\"}],\"name\":\"M\",\"out\":[{\"name\":\"y\",\"shape\":\"{2}\"}],\"parts\":[{\"name\":\"p\",\"task\":\"R\"}],\"reshapes\":[]},\
     {\"in\":[{\"name\":\"a\",\"shape\":\"{2}\"}],\"kind\":\"repeated\",\"links\":[\

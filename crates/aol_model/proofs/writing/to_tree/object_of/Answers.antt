@@ -10,7 +10,7 @@ loop-key-init g c = all_left named c.in-Ok.left.items c.args.members (members_vi
 pub loop-key-preserved : goal.loop-key-preserved
 loop-key-preserved g c =
     next_left named c.loop-key.left.items c.pop.new.self.items (c.in-Some.key, c.in-Some.value) c.text.result.now (view c.in-Some.value) (members_view c.loop-key.object.entries) (members_view c.put.new.map.entries) (members_from (map named c.args.members))
-        c.in-Some.ensures.items c.text.ensures refl c.in_ok-put.ensures.ok c.loop-key.invariant
+    c.in-Some.ensures.items c.text.ensures refl c.in_ok-put.ensures.ok c.loop-key.invariant
 
 pub returns-clause-written : goal.returns-clause-written
 returns-clause-written g c =

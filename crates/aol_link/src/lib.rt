@@ -4,6 +4,8 @@
 mod link;
 mod shared;
 mod steps;
+#[cfg(test)]
+mod tests;
 
 pub use link::{Choice, Fallback, Interlink, When};
 pub use shared::types_are_shared;

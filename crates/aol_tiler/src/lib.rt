@@ -11,3 +11,6 @@ mod walker;
 pub use shared::types_are_shared;
 pub use tiler::{IntMat, Tiler, TilerRefused};
 pub use walker::Walker;
+
+#[cfg(test)]
+mod tests;

@@ -1,4 +1,5 @@
 pub mod Addresses
+pub mod Blocks
 pub mod Entries
 pub mod Extends
 pub mod Made

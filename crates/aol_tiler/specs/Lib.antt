@@ -3,3 +3,4 @@ pub mod Tiler
 pub mod Sums
 pub mod Makers
 pub mod Walk
+pub mod Laws

@@ -2,12 +2,14 @@
 #![tactic(auto)]
 
 mod columns;
+mod laws;
 mod shared;
 mod sums;
 mod tiler;
 mod units;
 mod walker;
 
+pub use laws::blocks_are_repetitions;
 pub use shared::types_are_shared;
 pub use tiler::{IntMat, Tiler, TilerRefused};
 pub use walker::Walker;

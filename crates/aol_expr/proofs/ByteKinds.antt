@@ -4,7 +4,7 @@ use Rattle.std.proofs.lemmas.Bool.{eqb-true}
 use Rattle.std.proofs.lemmas.List.{append-nil}
 use Rattle.aol_shape.specs.Texts.{is_blank, is_digit, is_letter}
 use Rattle.aol_expr.specs.declared.op.ExprOp.{ExprOp}
-use Rattle.aol_expr.specs.declared.op.ExprOp.TheVariants.{Add, Sub, Mul, Div, Rem, Lt, Le, Eq, Min, Max}
+use Rattle.aol_expr.specs.declared.op.ExprOp.TheVariants.{Add, Sub, Mul, Div, Rem}
 use Rattle.aol_expr.specs.declared.byte.Byte.{Byte}
 use Rattle.aol_expr.specs.declared.byte.Byte.TheVariants.{Blank, Digit, Letter, Dollar, Operator, Less, Equals, Comma, Open, Close, OpenBrace, CloseBrace, Other}
 use Rattle.aol_expr.specs.Bytes.{byte_of, sign_of}

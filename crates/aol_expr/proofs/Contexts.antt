@@ -5,7 +5,7 @@ use Rattle.aol_expr.specs.declared.reader.Waiting.{Waiting}
 use Rattle.aol_expr.specs.declared.reader.Bracket.{Bracket}
 use Rattle.aol_expr.specs.declared.reader.Level.{Level}
 use Rattle.aol_expr.specs.Reading.{nothing_waits}
-use Rattle.aol_expr.proofs.Operands.{Spells, Waits, none_waits, all_take}
+use Rattle.aol_expr.proofs.Combined.{Spells, Waits, none_waits, all_take}
 use Rattle.aol_expr.proofs.OpenBrackets.{IsOpen}
 
 -- the texts of the open brackets, the innermost first

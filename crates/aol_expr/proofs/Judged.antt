@@ -1,11 +1,10 @@
 -- Reading expressions is their grammar.
-use Rattle.std.proofs.Common.{◌≡◌, ℕ, ◌+◌, ◌⊎◌, inl, inr, List, [], ◌∷◌, Bool, true, false, cond, Option, Some, None, Result, Ok, Err, refl, sym, ◌∙◌, ap, subst}
+use Rattle.std.proofs.Common.{◌≡◌, ℕ, ◌+◌, ◌⊎◌, inl, inr, List, [], ◌∷◌, Bool, true, false, cond, Option, Some, None, Ok, Err, refl, sym, ap, subst}
 use Rattle.aol_shape.specs.declared.limit.LimitName.{LimitName}
-use Rattle.aol_shape.specs.Grammar.{TextFault, at, limit, IsTextOf, IsText, IsWithinLimits, PassesAt, Reads}
+use Rattle.aol_shape.specs.Grammar.{at, limit, IsTextOf, IsText, IsWithinLimits, PassesAt, Reads}
 use Rattle.aol_shape.specs.Machine.{behind, ends, accepts, stuck_here, stuck_from, stuck_at}
 use Rattle.aol_shape.proofs.Stuck.{stuck-fails}
 use Rattle.aol_expr.specs.declared.reader.Reader.{Reader}
-use Rattle.aol_expr.specs.Tree.{Tree}
 use Rattle.aol_expr.specs.Text.{Written, tree_written, expr_grammar}
 use Rattle.aol_expr.specs.Reading.{recognizer, by_stuck, reading_from, expr_reading}
 use Rattle.aol_expr.proofs.Lives.{live}

@@ -4,7 +4,7 @@ pub mod Powers
 pub mod Rows
 mod Gaps
 mod ByteKinds
-mod Operands
+mod Combined
 mod OpenBrackets
 mod Contexts
 mod States
@@ -19,6 +19,13 @@ mod Judged
 mod WordCases
 mod Live
 mod LiveModes
+mod Backwards
+mod Solid
+mod Prefixes
+mod Views
+mod Unique
+mod Begins
+mod Completed
 mod Same
 mod Places
 mod Evaluation

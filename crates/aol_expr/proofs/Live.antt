@@ -1,15 +1,8 @@
 -- From each state that the reader of expressions reaches, some bytes lead to an end.
-use Rattle.std.proofs.Common.{◌≡◌, ℕ, zero, suc, ◌+◌, List, [], ◌∷◌, ◌++◌, length, Bool, true, false, cond, Option, Some, None, refl, sym, ◌∙◌, ap, subst}
-use Rattle.std.specs.Prelude.{nat_lt}
-use Rattle.std.specs.Option.{option_map, is_some}
+use Rattle.std.proofs.Common.{ℕ, List, [], ◌∷◌, Option, Some, refl}
 use Rattle.aol_shape.specs.declared.limit.LimitName.{LimitName}
-use Rattle.aol_shape.specs.Machine.{behind, ends}
 use Rattle.aol_shape.proofs.Stuck.{Leads}
 use Rattle.aol_expr.specs.declared.op.ExprOp.{ExprOp}
-use Rattle.aol_expr.specs.declared.op.ExprOp.TheVariants.{Add}
-use Rattle.aol_expr.specs.declared.byte.Byte.TheVariants.{Operator, Comma}
-use Rattle.aol_expr.specs.declared.letters.Keyword.{Keyword}
-use Rattle.aol_expr.specs.declared.letters.Keyword.TheVariants.{Function, If, Sum}
 use Rattle.aol_expr.specs.declared.part.Part.{Part}
 use Rattle.aol_expr.specs.declared.reader.Waiting.{Waiting}
 use Rattle.aol_expr.specs.declared.reader.Bracket.{Bracket}
@@ -17,9 +10,8 @@ use Rattle.aol_expr.specs.declared.reader.Bracket.TheVariants.{Parens, Indices, 
 use Rattle.aol_expr.specs.declared.reader.Level.{Level}
 use Rattle.aol_expr.specs.declared.reader.Held.{Held}
 use Rattle.aol_expr.specs.declared.reader.Mode.{Mode}
-use Rattle.aol_expr.specs.declared.reader.Mode.TheVariants.{Operand, FirstIndex, Digits, Index, InIndex, InWord, AfterWord, Named, Whole, Smaller, Equal, SumName, InSumName, SumNamed, Bound, InBound, Bounded}
-use Rattle.aol_expr.specs.declared.reader.Reader.{Reader}
-use Rattle.aol_expr.specs.Reading.{recognizer, step, stepped, after_operand, left, closed, braced, continued, next_argument, begun, new_index, in_index, finished, whole, noted, opened, inside, placed}
+use Rattle.aol_expr.specs.declared.reader.Mode.TheVariants.{Operand, Whole}
+use Rattle.aol_expr.specs.Reading.{recognizer, step, stepped, after_operand, left, closed, braced, continued, next_argument, begun, new_index, in_index, finished, whole}
 
 -- what is held
 abbrev pub held_by : ℕ → Option (ℕ × LimitName) → List Level → Waiting → ℕ → Held

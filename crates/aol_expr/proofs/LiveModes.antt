@@ -1,21 +1,16 @@
 -- From each mode of the reader some bytes lead to an end, where a word has room for its bracket.
-use Rattle.std.proofs.Common.{◌≡◌, ℕ, zero, suc, ◌+◌, ◌≤◌, List, [], ◌∷◌, ◌++◌, length, Bool, true, false, cond, eqb, ◌&&◌, Option, Some, None, refl, sym, ◌∙◌, ap, subst, arith}
-use Rattle.std.specs.Prelude.{ℤ, nat_lt, pos, codes}
+use Rattle.std.proofs.Common.{◌≡◌, ℕ, zero, suc, ◌+◌, ◌≤◌, List, [], ◌∷◌, length, Bool, true, false, cond, eqb, Option, Some, None, refl, sym, ap, subst, arith}
+use Rattle.std.specs.Prelude.{nat_lt, codes}
 use Rattle.std.specs.Option.{option_map, is_some, unwrap_or}
-use Rattle.std.proofs.lemmas.Bool.{false≢true, and_parts, eqb-true, ne_eqb}
+use Rattle.std.proofs.lemmas.Bool.{ne_eqb}
 use Rattle.aol_shape.specs.declared.limit.LimitName.{LimitName}
-use Rattle.aol_shape.specs.Lists.{same}
 use Rattle.aol_shape.specs.Machine.{behind, ends}
 use Rattle.aol_shape.proofs.Stuck.{Leads}
-use Rattle.aol_expr.specs.declared.op.ExprOp.{ExprOp}
-use Rattle.aol_expr.specs.declared.op.ExprOp.TheVariants.{Add, Min, Max}
-use Rattle.aol_expr.specs.declared.byte.Byte.{Byte}
-use Rattle.aol_expr.specs.declared.byte.Byte.TheVariants.{Operator, Comma, Letter}
+use Rattle.aol_expr.specs.declared.op.ExprOp.TheVariants.{Add}
+use Rattle.aol_expr.specs.declared.byte.Byte.TheVariants.{Operator, Comma}
 use Rattle.aol_expr.specs.declared.letters.Keyword.{Keyword}
 use Rattle.aol_expr.specs.declared.letters.Keyword.TheVariants.{Function, If, Sum}
 use Rattle.aol_expr.specs.declared.part.Part.{Part}
-use Rattle.aol_expr.specs.declared.reader.Numeral.{Numeral}
-use Rattle.aol_expr.specs.declared.reader.Waiting.{Waiting}
 use Rattle.aol_expr.specs.declared.reader.Bracket.{Bracket}
 use Rattle.aol_expr.specs.declared.reader.Bracket.TheVariants.{First, Condition, Term}
 use Rattle.aol_expr.specs.declared.reader.Level.{Level}
@@ -23,12 +18,11 @@ use Rattle.aol_expr.specs.declared.reader.Held.{Held}
 use Rattle.aol_expr.specs.declared.reader.Mode.{Mode}
 use Rattle.aol_expr.specs.declared.reader.Mode.TheVariants.{Operand, FirstIndex, Digits, Index, InIndex, InWord, AfterWord, Named, Whole, Smaller, Equal, SumName, InSumName, SumNamed, Bound, InBound, Bounded}
 use Rattle.aol_expr.specs.declared.reader.Reader.{Reader}
-use Rattle.aol_expr.specs.Digits.{DigitsOf}
 use Rattle.aol_expr.specs.Decimals.{in_bounds}
 use Rattle.aol_expr.specs.Words.{word_of}
-use Rattle.aol_expr.specs.Reading.{recognizer, step, stepped, after_operand, left, closed, braced, continued, next_argument, begun, new_index, in_index, finished, whole, noted, opened, inside, placed, has_room, in_digits, in_word, after_word, after_name, first_index, smaller, equal, sum_name, sum_named, in_sum_name, bound, bounded, in_bound, word_opened}
+use Rattle.aol_expr.specs.Reading.{recognizer, step, stepped, after_operand, begun, new_index, in_index, noted, opened, inside, placed, has_room, in_digits, in_word, after_word, after_name, first_index, smaller, equal, sum_name, sum_named, in_sum_name, bound, bounded, in_bound}
 use Rattle.aol_expr.proofs.WordCases.{by_word}
-use Rattle.aol_expr.proofs.Live.{From, FromWhole, operand, from_operand, closing_all, whole_leads, operand_leads, level, held_by}
+use Rattle.aol_expr.proofs.Live.{From, operand, closing_all, whole_leads, operand_leads, level, held_by}
 
 -- an operand, and then what closes all brackets
 abbrev way : List Level → List ℕ

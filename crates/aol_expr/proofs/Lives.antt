@@ -1,5 +1,5 @@
 -- From each state that the reader of expressions reaches, some bytes lead to an end.
-use Rattle.std.proofs.Common.{◌≡◌, ℕ, List, Option, Some, None, subst, length}
+use Rattle.std.proofs.Common.{◌≡◌, ℕ, List, Some, subst, length}
 use Rattle.std.proofs.lemmas.Bool.{lt-ltb}
 use Rattle.aol_shape.specs.Machine.{behind}
 use Rattle.aol_shape.proofs.Stuck.{Leads}

@@ -1,8 +1,7 @@
 -- The texts of open brackets, and what they need to be closed.
-use Rattle.std.proofs.Common.{◌≡◌, ℕ, suc, ◌+◌, ◌-◌, ◌<◌, ◌≤◌, max, List, [], ◌∷◌, ◌++◌, length, Bool, true, ◌&&◌, eqb, Option, Some, None, refl, sym, ◌∙◌, ap, subst, arith, append_assoc}
+use Rattle.std.proofs.Common.{◌≡◌, ℕ, suc, ◌+◌, ◌-◌, ◌<◌, ◌≤◌, max, List, [], ◌∷◌, ◌++◌, true, ◌&&◌, eqb, refl, ◌∙◌, ap, subst, arith, append_assoc}
 use Rattle.std.specs.Prelude.{codes, ◌*◌}
 use Rattle.std.proofs.lemmas.Bool.{and_from, eq-eqb}
-use Rattle.std.proofs.lemmas.List.{append-nil}
 use Rattle.std.proofs.Math.Nat.{max-le}
 use Rattle.aol_shape.specs.Texts.{is_name, are_digits, digits_value}
 use Rattle.aol_shape.specs.Tokens.{Token, plain, sign, separated}
@@ -10,9 +9,9 @@ use Rattle.aol_expr.specs.declared.op.ExprOp.{ExprOp}
 use Rattle.aol_expr.specs.declared.part.Part.{Part}
 use Rattle.aol_expr.specs.declared.reader.Bracket.{Bracket}
 use Rattle.aol_expr.specs.declared.reader.Bracket.TheVariants.{Parens, Indices, First, Second, Condition, Chosen, Other, Term}
-use Rattle.aol_expr.specs.Text.{Written, WrittenList, no_written, written_and, numeral, dollar, name, indexed, function_of, choice, summed, parens, strength, alone, brackets, brackets_of, is_well, are_well, op_text, tokens_in, token_lists, bound_token, in_parens}
+use Rattle.aol_expr.specs.Text.{Written, WrittenList, no_written, written_and, indexed, function_of, choice, summed, parens, strength, alone, brackets, brackets_of, is_well, are_well, op_text, tokens_in, token_lists, bound_token, in_parens}
 use Rattle.aol_expr.proofs.Gaps.{texts}
-use Rattle.aol_expr.proofs.Operands.{Spells, texts_append}
+use Rattle.aol_expr.proofs.Combined.{Spells, texts_append}
 
 -- the texts are one argument or more, with commas between them
 pub record Lists (depth : ℕ) (ts : List (List ℕ)) : Type 0 where

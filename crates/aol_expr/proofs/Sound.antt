@@ -1,5 +1,5 @@
 -- What the reader of expressions accepts is a spelling.
-use Rattle.std.proofs.Common.{◌≡◌, ℕ, ◌+◌, List, [], ◌∷◌, ◌++◌, length, Bool, true, false, ◌&&◌, leb, Option, Some, None, refl, sym, ◌∙◌, ap, subst, arith, append_assoc}
+use Rattle.std.proofs.Common.{◌≡◌, ℕ, ◌+◌, List, [], ◌∷◌, ◌++◌, Bool, true, false, leb, Option, Some, None, refl, sym, ◌∙◌, ap, subst, arith, append_assoc}
 use Rattle.std.specs.Option.{option_map, is_some}
 use Rattle.std.proofs.lemmas.Bool.{and_from, le-leb, false≢true}
 use Rattle.std.proofs.lemmas.List.{append-nil}
@@ -20,7 +20,7 @@ use Rattle.aol_expr.specs.Text.{brackets, is_well, tokens_in, expr_grammar}
 use Rattle.aol_expr.specs.Reading.{recognizer, step, stepped, placed, finished, whole, operand_of}
 use Rattle.aol_expr.proofs.Gaps.{Spaced, from_spaced}
 use Rattle.aol_expr.proofs.ByteKinds.{Says, added, added_one, byte_says}
-use Rattle.aol_expr.proofs.Operands.{Spells, all_take}
+use Rattle.aol_expr.proofs.Combined.{Spells, all_take}
 use Rattle.aol_expr.proofs.Contexts.{before_all}
 use Rattle.aol_expr.proofs.States.{Wholed, IsRead, Fits}
 use Rattle.aol_expr.proofs.SoundOperands.{after_fits, begun_fits}

@@ -1,32 +1,19 @@
 -- What is read stays so where a bracket goes on or is closed.
-use Rattle.std.proofs.Common.{◌≡◌, ℕ, suc, ◌+◌, ◌<◌, ◌≤◌, List, [], ◌∷◌, ◌++◌, length, Bool, true, false, cond, ◌&&◌, ◌||◌, Option, Some, None, refl, sym, ◌∙◌, ap, subst, arith, append_assoc}
-use Rattle.std.specs.Prelude.{ltb}
-use Rattle.std.specs.Option.{is_none}
-use Rattle.std.proofs.lemmas.Bool.{and_from, ltb-true, false≢true}
-use Rattle.aol_shape.specs.Texts.{is_blank, is_digit, is_letter}
-use Rattle.aol_expr.specs.declared.op.ExprOp.{ExprOp}
-use Rattle.aol_expr.specs.declared.op.ExprOp.TheVariants.{Add, Sub, Mul, Div, Rem, Lt, Le, Eq, Min, Max}
-use Rattle.aol_expr.specs.declared.byte.Byte.{Byte}
-use Rattle.aol_expr.specs.declared.byte.Byte.TheVariants.{Blank, Digit, Letter, Dollar, Operator, Less, Equals, Comma, Open, Close, OpenBrace, CloseBrace, Other}
+use Rattle.std.proofs.Common.{◌≡◌, ℕ, suc, List, [], ◌∷◌, ◌++◌, length, Bool, true, false, cond, Option, refl, ap, subst, append_assoc}
 use Rattle.aol_expr.specs.declared.part.Part.{Part}
-use Rattle.aol_expr.specs.declared.reader.Left.{Left}
 use Rattle.aol_expr.specs.declared.reader.Waiting.{Waiting}
 use Rattle.aol_expr.specs.declared.reader.Bracket.{Bracket}
 use Rattle.aol_expr.specs.declared.reader.Bracket.TheVariants as brackets
 use Rattle.aol_expr.specs.declared.reader.Level.{Level}
 use Rattle.aol_expr.specs.declared.reader.Held.{Held}
-use Rattle.aol_expr.specs.declared.reader.Mode.{Mode}
-use Rattle.aol_expr.specs.declared.reader.Mode.TheVariants.{Operand}
 use Rattle.aol_expr.specs.declared.reader.Reader.{Reader}
-use Rattle.aol_expr.specs.Text.{op_text}
 use Rattle.aol_expr.specs.Parts.{with_index}
-use Rattle.aol_expr.specs.Reading.{nothing_waits, waits, after_operand, continued, next_argument, left, closed, braced, begun, opened, inside, has_room}
+use Rattle.aol_expr.specs.Reading.{nothing_waits, waits, continued, next_argument, left, closed, braced}
 use Rattle.aol_expr.proofs.Gaps.{Spaced, spaced_text}
-use Rattle.aol_expr.proofs.ByteKinds.{Says, added, spaced_added}
-use Rattle.aol_expr.proofs.Operands.{Spells, Waits, plain_waits}
-use Rattle.aol_expr.proofs.OpenBrackets.{IsOpen, one_argument, index_more, parens_open}
-use Rattle.aol_expr.proofs.Contexts.{Before, before_right, before_inside, before_next, before_behind, behind_texts, behind_spells}
-use Rattle.aol_expr.proofs.States.{IsAt, Wholed, Unfilled, Ending, AreCounted, AreLetters, Fits}
+use Rattle.aol_expr.proofs.Combined.{Spells, Waits}
+use Rattle.aol_expr.proofs.OpenBrackets.{IsOpen, one_argument, index_more}
+use Rattle.aol_expr.proofs.Contexts.{before_right, before_next, before_behind, behind_texts, behind_spells}
+use Rattle.aol_expr.proofs.States.{IsAt, Wholed, Fits}
 
 -- by the two values of a test
 pub fits_when : (t : Bool) (x y : Option Reader) (f : List ℕ) → (t ≡ true → Fits x f) → (t ≡ false → Fits y f) → Fits (cond t x y) f

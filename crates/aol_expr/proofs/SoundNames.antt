@@ -1,15 +1,14 @@
 -- What is read stays so in words and names.
-use Rattle.std.proofs.Common.{◌≡◌, ℕ, ◌+◌, ◌<◌, ◌≤◌, List, [], ◌∷◌, ◌++◌, length, Bool, true, false, cond, not, ◌&&◌, ◌||◌, leb, Option, Some, None, refl, sym, ◌∙◌, ap, subst, arith, append_assoc}
+use Rattle.std.proofs.Common.{◌≡◌, ℕ, ◌<◌, List, [], ◌∷◌, ◌++◌, length, Bool, true, false, cond, not, ◌&&◌, ◌||◌, leb, Some, None, refl, sym, ◌∙◌, ap, subst, arith, append_assoc}
 use Rattle.std.specs.Prelude.{ltb, codes}
-use Rattle.std.specs.Option.{is_some}
 use Rattle.std.specs.List.{list_all}
-use Rattle.std.proofs.lemmas.Bool.{and_from, and_parts, ltb-true, le-leb, false≢true}
+use Rattle.std.proofs.lemmas.Bool.{and_from, ltb-true, le-leb}
 use Rattle.std.proofs.lemmas.List.{length-append}
 use Rattle.aol_shape.specs.Lists.{same}
 use Rattle.aol_shape.specs.Texts.{is_letter, is_digit, is_name_byte, is_name, is_word}
 use Rattle.aol_expr.specs.declared.op.ExprOp.TheVariants.{Min, Max}
 use Rattle.aol_expr.specs.declared.byte.Byte.{Byte}
-use Rattle.aol_expr.specs.declared.byte.Byte.TheVariants.{Blank, Digit, Letter, Dollar, Operator, Less, Equals, Comma, Open, Close, OpenBrace, CloseBrace, Other}
+use Rattle.aol_expr.specs.declared.byte.Byte.TheVariants.{Blank, Digit, Letter, Open, OpenBrace, CloseBrace}
 use Rattle.aol_expr.specs.declared.letters.Keyword.{Keyword}
 use Rattle.aol_expr.specs.declared.letters.Keyword.TheVariants.{Function, If, Sum}
 use Rattle.aol_expr.specs.declared.part.Part.{Part}
@@ -21,13 +20,12 @@ use Rattle.aol_expr.specs.declared.reader.Held.{Held}
 use Rattle.aol_expr.specs.declared.reader.Mode.TheVariants.{InWord, AfterWord, FirstIndex}
 use Rattle.aol_expr.specs.Text.{name, op_text}
 use Rattle.aol_expr.specs.Words.{word_of}
-use Rattle.aol_expr.specs.Reading.{after_operand, opened, inside, has_room, after_word, after_name, in_word, first_index, left, unindexed, nothing_waits}
+use Rattle.aol_expr.specs.Reading.{opened, inside, has_room, after_word, after_name, in_word, first_index, left, unindexed, nothing_waits}
 use Rattle.aol_expr.proofs.Gaps.{Spaced, spaced_text, all_more}
 use Rattle.aol_expr.proofs.ByteKinds.{Says, added, spaced_added}
-use Rattle.aol_expr.proofs.Operands.{Spells}
 use Rattle.aol_expr.proofs.OpenBrackets.{function_opens, condition_opens, indices_open, no_indices}
 use Rattle.aol_expr.proofs.Contexts.{Before, before_inside}
-use Rattle.aol_expr.proofs.States.{IsAt, Wholed, Worded, NamedAt, Unfilled, Ending, AreLetters, keyword_text, IsKeyword, sum_texts, IsRead, Fits}
+use Rattle.aol_expr.proofs.States.{IsAt, Wholed, NamedAt, Unfilled, Ending, AreLetters, keyword_text, IsKeyword, IsRead, Fits}
 use Rattle.aol_expr.proofs.SoundBrackets.{fits_when, byte_behind}
 use Rattle.aol_expr.proofs.SoundOperands.{after_fits, begun_fits, opened_fits}
 use Rattle.aol_expr.proofs.SoundNumbers.{grown, onward_when}

@@ -1,5 +1,5 @@
 -- What is read stays so in numbers, indices and comparisons.
-use Rattle.std.proofs.Common.{◌≡◌, ℕ, zero, suc, ◌+◌, ◌<◌, ◌≤◌, List, [], ◌∷◌, ◌++◌, length, Bool, true, false, cond, ◌&&◌, eqb, leb, Option, Some, None, refl, sym, ◌∙◌, ap, subst, arith, append_assoc}
+use Rattle.std.proofs.Common.{◌≡◌, ℕ, zero, suc, ◌+◌, ◌<◌, ◌≤◌, List, [], ◌∷◌, ◌++◌, length, Bool, true, false, cond, ◌&&◌, eqb, leb, Some, None, refl, sym, ◌∙◌, ap, subst, arith, append_assoc}
 use Rattle.std.specs.Prelude.{ltb}
 use Rattle.std.specs.List.{list_all}
 use Rattle.std.proofs.lemmas.Bool.{and_from, and_parts, ltb-true, le-leb, leb-true, ne_eqb, false≢true}
@@ -17,12 +17,11 @@ use Rattle.aol_expr.specs.declared.reader.Level.{Level}
 use Rattle.aol_expr.specs.declared.reader.Held.{Held}
 use Rattle.aol_expr.specs.declared.reader.Mode.{Mode}
 use Rattle.aol_expr.specs.declared.reader.Mode.TheVariants.{Digits, Index, InIndex, Smaller, Equal}
-use Rattle.aol_expr.specs.declared.reader.Reader.{Reader}
-use Rattle.aol_expr.specs.Text.{numeral, dollar, is_well, op_text}
+use Rattle.aol_expr.specs.Text.{numeral, dollar, op_text}
 use Rattle.aol_expr.specs.Reading.{after_operand, noted, onward, in_digits, new_index, in_index, smaller, equal, compared, waits}
 use Rattle.aol_expr.proofs.Gaps.{Spaced, spaced_text, all_more}
 use Rattle.aol_expr.proofs.ByteKinds.{Says, added}
-use Rattle.aol_expr.proofs.Operands.{Spells, IsComparison, compared_waits}
+use Rattle.aol_expr.proofs.Combined.{Spells, IsComparison, compared_waits}
 use Rattle.aol_expr.proofs.States.{IsAt, Wholed, Ending, AreCounted, numeral_text, IsRead, Fits}
 use Rattle.aol_expr.proofs.SoundBrackets.{fits_when, right_comes}
 use Rattle.aol_expr.proofs.SoundOperands.{after_fits, begun_fits}

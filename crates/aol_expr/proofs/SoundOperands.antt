@@ -1,11 +1,9 @@
 -- What is read stays so behind an operand, and where an operand begins.
-use Rattle.std.proofs.Common.{◌≡◌, ℕ, suc, ◌+◌, ◌<◌, ◌≤◌, List, [], ◌∷◌, ◌++◌, length, Bool, true, false, cond, ◌&&◌, ◌||◌, Option, Some, None, refl, sym, ◌∙◌, ap, subst, arith, append_assoc}
-use Rattle.std.specs.Prelude.{ltb}
+use Rattle.std.proofs.Common.{◌≡◌, ℕ, List, [], ◌∷◌, ◌++◌, length, Bool, true, false, ◌||◌, Option, Some, None, refl, sym, ap, arith}
 use Rattle.std.specs.Option.{is_none}
 use Rattle.std.proofs.lemmas.Bool.{and_from, ltb-true, false≢true}
 use Rattle.aol_shape.specs.Texts.{is_blank, is_digit, is_letter}
-use Rattle.aol_expr.specs.declared.op.ExprOp.{ExprOp}
-use Rattle.aol_expr.specs.declared.op.ExprOp.TheVariants.{Add, Sub, Mul, Div, Rem, Lt, Le, Eq, Min, Max}
+use Rattle.aol_expr.specs.declared.op.ExprOp.TheVariants.{Sub}
 use Rattle.aol_expr.specs.declared.byte.Byte.{Byte}
 use Rattle.aol_expr.specs.declared.byte.Byte.TheVariants.{Blank, Digit, Letter, Dollar, Operator, Less, Equals, Comma, Open, Close, OpenBrace, CloseBrace, Other}
 use Rattle.aol_expr.specs.declared.part.Part.{Part}
@@ -15,19 +13,16 @@ use Rattle.aol_expr.specs.declared.reader.Bracket.{Bracket}
 use Rattle.aol_expr.specs.declared.reader.Bracket.TheVariants as brackets
 use Rattle.aol_expr.specs.declared.reader.Level.{Level}
 use Rattle.aol_expr.specs.declared.reader.Held.{Held}
-use Rattle.aol_expr.specs.declared.reader.Mode.{Mode}
 use Rattle.aol_expr.specs.declared.reader.Mode.TheVariants.{Operand}
-use Rattle.aol_expr.specs.declared.reader.Reader.{Reader}
 use Rattle.aol_expr.specs.Text.{op_text}
-use Rattle.aol_expr.specs.Parts.{with_index}
-use Rattle.aol_expr.specs.Reading.{nothing_waits, waits, after_operand, continued, next_argument, left, closed, braced, begun, opened, inside, has_room}
-use Rattle.aol_expr.proofs.Gaps.{Spaced, spaced_text}
+use Rattle.aol_expr.specs.Reading.{waits, after_operand, begun, opened, inside, has_room}
+use Rattle.aol_expr.proofs.Gaps.{Spaced}
 use Rattle.aol_expr.proofs.ByteKinds.{Says, added, spaced_added}
-use Rattle.aol_expr.proofs.Operands.{Spells, Waits, plain_waits}
-use Rattle.aol_expr.proofs.OpenBrackets.{IsOpen, one_argument, index_more, parens_open}
-use Rattle.aol_expr.proofs.Contexts.{Before, before_right, before_inside, before_next, before_behind, behind_texts, behind_spells}
+use Rattle.aol_expr.proofs.Combined.{plain_waits}
+use Rattle.aol_expr.proofs.OpenBrackets.{IsOpen, parens_open}
+use Rattle.aol_expr.proofs.Contexts.{Before, before_inside}
 use Rattle.aol_expr.proofs.SoundBrackets.{fits_when, byte_behind, right_comes, continued_fits, closed_fits, braced_fits}
-use Rattle.aol_expr.proofs.States.{IsAt, Wholed, Unfilled, Ending, AreCounted, AreLetters, Fits}
+use Rattle.aol_expr.proofs.States.{IsAt, Wholed, Unfilled, AreLetters, Fits}
 
 blank_at : {ls : List Level} {w : Waiting} {f : List ℕ} (last : Bool) (b : ℕ) → is_blank b ≡ true → IsAt ls w f → IsAt ls w (f ++ added last Blank b)
 blank_at {f = f} last b e a = record { texts = a.texts; before = a.before; spaced = spaced_added last a.texts f b a.spaced e }

@@ -1,10 +1,10 @@
 -- What is read stays so between a sum's bracket and its term.
-use Rattle.std.proofs.Common.{◌≡◌, ℕ, ◌+◌, ◌<◌, ◌≤◌, List, [], ◌∷◌, ◌++◌, length, Bool, true, false, cond, Option, Some, None, refl, sym, ◌∙◌, ap, subst, arith, append_assoc}
-use Rattle.std.specs.Prelude.{ltb, codes}
+use Rattle.std.proofs.Common.{◌≡◌, ℕ, List, [], ◌∷◌, ◌++◌, length, Bool, true, false, cond, Option, Some, None, refl, sym, subst, arith, append_assoc}
+use Rattle.std.specs.Prelude.{ltb}
 use Rattle.std.specs.Option.{is_some}
 use Rattle.std.proofs.lemmas.Bool.{ltb-true, false≢true}
 use Rattle.aol_shape.specs.declared.limit.LimitName.{LimitName}
-use Rattle.aol_shape.specs.Texts.{is_blank, is_name, are_digits}
+use Rattle.aol_shape.specs.Texts.{is_blank}
 use Rattle.aol_expr.specs.declared.byte.Byte.{Byte}
 use Rattle.aol_expr.specs.declared.byte.Byte.TheVariants.{Blank, Digit, Letter, Comma}
 use Rattle.aol_expr.specs.declared.letters.Keyword.{Keyword}
@@ -20,7 +20,7 @@ use Rattle.aol_expr.proofs.Gaps.{Spaced, spaced_text}
 use Rattle.aol_expr.proofs.ByteKinds.{Says, added, spaced_added}
 use Rattle.aol_expr.proofs.OpenBrackets.{term_opens}
 use Rattle.aol_expr.proofs.Contexts.{before_inside}
-use Rattle.aol_expr.proofs.States.{Worded, Ending, AreCounted, AreLetters, sum_texts, IsRead, Fits}
+use Rattle.aol_expr.proofs.States.{Worded, Ending, sum_texts, IsRead, Fits}
 use Rattle.aol_expr.proofs.SoundBrackets.{fits_when, byte_behind}
 use Rattle.aol_expr.proofs.SoundOperands.{letter_begins}
 use Rattle.aol_expr.proofs.SoundNumbers.{grown, onward_when, one_counted, more_counted, digits_right}

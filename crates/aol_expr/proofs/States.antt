@@ -1,12 +1,10 @@
 -- What is read so far, by the state of the reader.
-use Rattle.std.proofs.Common.{◌≡◌, ℕ, ◌+◌, ◌<◌, ◌≤◌, List, [], ◌∷◌, ◌++◌, length, Bool, true, cond, Option, Some, None}
+use Rattle.std.proofs.Common.{◌≡◌, ℕ, ◌<◌, ◌≤◌, List, [], ◌∷◌, ◌++◌, length, Bool, true, cond, Option, Some, None}
 use Rattle.std.specs.Prelude.{codes}
 use Rattle.std.specs.List.{list_all}
 use Rattle.aol_shape.specs.Texts.{is_digit, is_letter, is_name_byte, is_name, are_digits}
-use Rattle.aol_expr.specs.declared.op.ExprOp.{ExprOp}
 use Rattle.aol_expr.specs.declared.letters.Keyword.{Keyword}
 use Rattle.aol_expr.specs.declared.letters.Keyword.TheVariants.{Function, If, Sum}
-use Rattle.aol_expr.specs.declared.reader.Left.{Left}
 use Rattle.aol_expr.specs.declared.reader.Waiting.{Waiting}
 use Rattle.aol_expr.specs.declared.reader.Level.{Level}
 use Rattle.aol_expr.specs.declared.reader.Mode.{Mode}
@@ -14,7 +12,7 @@ use Rattle.aol_expr.specs.declared.reader.Mode.TheVariants.{Operand, FirstIndex,
 use Rattle.aol_expr.specs.declared.reader.Reader.{Reader}
 use Rattle.aol_expr.specs.Text.{strength, alone, op_text}
 use Rattle.aol_expr.proofs.Gaps.{Spaced}
-use Rattle.aol_expr.proofs.Operands.{Spells}
+use Rattle.aol_expr.proofs.Combined.{Spells}
 use Rattle.aol_expr.proofs.Contexts.{Before}
 
 -- an operand comes next

@@ -1,0 +1,122 @@
+-- Where the first token that passes a limit begins.
+use Rattle.std.proofs.Common.{◌≡◌, ℕ, suc, ◌+◌, ◌≤◌, List, [], ◌∷◌, ◌++◌, length, take, drop, get_or, true, false, not, Option, Some, None, option_map, refl, sym, ◌∙◌, ap, subst, arith, append_assoc}
+use Rattle.std.specs.List.{list_all}
+use Rattle.std.proofs.lemmas.Bool.{and_parts, not-true, false≢true}
+use Rattle.std.proofs.lemmas.List.{length-append, take_at, drop_at}
+use Rattle.aol_shape.specs.declared.limit.LimitName.{LimitName}
+use Rattle.aol_shape.specs.Lists.{or_else}
+use Rattle.aol_shape.specs.Texts.{is_blank}
+use Rattle.aol_shape.specs.Tokens.{Token, IsSpaced, first_passing_from, BeginsAt}
+use Rattle.aol_expr.proofs.Gaps.{texts}
+use Rattle.aol_expr.proofs.Backwards.{no_blanks, is_solid}
+use Rattle.aol_expr.proofs.Solid.{AreSolid}
+
+-- the first limit that is passed, with a token at this place
+abbrev pub noted_token : Option (ℕ × LimitName) → ℕ → Option LimitName → Option (ℕ × LimitName)
+noted_token passed k o = or_else passed (option_map (λ l. (k, l)) o)
+
+-- the first limit that is passed behind all tokens, from this place and what is passed before on
+abbrev pub first_passed : Option (ℕ × LimitName) → ℕ → (bytes : List ℕ) → (ts : List Token) → IsSpaced bytes ts → Option (ℕ × LimitName)
+first_passed passed k bytes [] s = passed
+first_passed passed k bytes (t ∷ ts) s = first_passed (noted_token passed (k + length s.0) t.passes) (k + length s.0 + length t.text) s.1 ts s.4
+
+-- ---- where tokens begin
+
+take_more : (xs ys : List ℕ) (n k : ℕ) → n ≡ length xs → take (n + k) (xs ++ ys) ≡ xs ++ take k ys
+take_more [] ys n k e = ap (λ m. take m ys) (omega (arith, e))
+take_more (x ∷ xs) ys n k e = ap (λ m. take m (x ∷ xs ++ ys)) (let m : n + k ≡ suc (length xs + k) = omega (arith, e) in m) ∙ ap (λ zs. x ∷ zs) (take_more xs ys (length xs) k refl)
+
+drop_more : (xs ys : List ℕ) (n k : ℕ) → n ≡ length xs → drop (n + k) (xs ++ ys) ≡ drop k ys
+drop_more [] ys n k e = ap (λ m. drop m ys) (omega (arith, e))
+drop_more (x ∷ xs) ys n k e = ap (λ m. drop m (x ∷ xs ++ ys)) (let m : n + k ≡ suc (length xs + k) = omega (arith, e) in m) ∙ drop_more xs ys (length xs) k refl
+
+get_more : (xs ys : List ℕ) (n k : ℕ) → n ≡ length xs → get_or (xs ++ ys) (n + k) 0 ≡ get_or ys k 0
+get_more [] ys n k e = ap (λ m. get_or ys m 0) (omega (arith, e))
+get_more (x ∷ xs) ys n k e = ap (λ m. get_or (x ∷ xs ++ ys) m 0) (let m : n + k ≡ suc (length xs + k) = omega (arith, e) in m) ∙ get_more xs ys (length xs) k refl
+
+first_byte : (t rest : List ℕ) → is_solid t ≡ true → is_blank (get_or (t ++ rest) 0 0) ≡ false
+first_byte [] rest h = absurd (false≢true h)
+first_byte (b ∷ t) rest h = not-true (is_blank b) (and_parts (not (is_blank b)) (no_blanks t) h).0
+
+some_byte : (t : List ℕ) → is_solid t ≡ true → 1 ≤ length t
+some_byte [] h = absurd (false≢true h)
+some_byte (b ∷ t) h = omega arith
+
+begins_here : (t : Token) (ts : List Token) (bytes : List ℕ) (s : IsSpaced bytes (t ∷ ts)) → is_solid t.text ≡ true → BeginsAt bytes (t ∷ ts) 0 (length s.0)
+begins_here t ts bytes s h =
+    let e : bytes ≡ s.0 ++ (t.text ++ s.1) = s.2 ∙ append_assoc s.0 t.text s.1 in
+    let n : length s.0 + 0 ≡ length s.0 = omega arith in
+    record {
+      within = omega (arith, ap length e, length-append s.0 (t.text ++ s.1), length-append t.text s.1, some_byte t.text h);
+      before = subst (λ bs. list_all is_blank bs ≡ true) (sym (ap (take (length s.0)) e ∙ take_at s.0 (t.text ++ s.1) (length s.0) refl)) s.3;
+      from = ([], s.1, ap (drop (length s.0)) e ∙ drop_at s.0 (t.text ++ s.1) (length s.0) refl, refl, s.4);
+      on_token = ap (λ bs. is_blank (get_or bs (length s.0) 0)) e ∙ ap (λ k. is_blank (get_or (s.0 ++ (t.text ++ s.1)) k 0)) (sym n) ∙ ap is_blank (get_more s.0 (t.text ++ s.1) (length s.0) 0 refl) ∙ first_byte t.text s.1 h;
+    }
+
+begins_later : (t : Token) (ts : List Token) (bytes : List ℕ) (s : IsSpaced bytes (t ∷ ts)) (k o : ℕ) → BeginsAt s.1 ts k o → BeginsAt bytes (t ∷ ts) (suc k) (length s.0 + length t.text + o)
+begins_later t ts bytes s k o b =
+    let n : length s.0 + length t.text ≡ length (s.0 ++ t.text) = omega (arith, length-append s.0 t.text) in
+    record {
+      within = omega (arith, ap length s.2, length-append (s.0 ++ t.text) s.1, n, b.within);
+      before = (s.0, take o s.1, ap (take (length s.0 + length t.text + o)) s.2 ∙ take_more (s.0 ++ t.text) s.1 (length s.0 + length t.text) o n, s.3, b.before);
+      from = subst (λ bs. IsSpaced bs (drop k ts)) (sym (ap (drop (length s.0 + length t.text + o)) s.2 ∙ drop_more (s.0 ++ t.text) s.1 (length s.0 + length t.text) o n)) b.from;
+      on_token = ap (λ bs. is_blank (get_or bs (length s.0 + length t.text + o) 0)) s.2 ∙ ap is_blank (get_more (s.0 ++ t.text) s.1 (length s.0 + length t.text) o n) ∙ b.on_token;
+    }
+
+-- ---- the first that passes a limit
+
+-- what is passed stays
+kept : (p : ℕ × LimitName) (k : ℕ) (bytes : List ℕ) (ts : List Token) (s : IsSpaced bytes ts) → first_passed (Some p) k bytes ts s ≡ Some p
+kept p k bytes [] s = refl
+kept p k bytes (t ∷ ts) s = kept p (k + length s.0 + length t.text) s.1 ts s.4
+
+-- a token passes this limit, from number i and place k on
+pub record Passes (i k : ℕ) (bytes : List ℕ) (ts : List Token) (byte : ℕ) (passed : LimitName) : Type 0 where
+  pub number : ℕ
+  pub start : ℕ
+  pub first : first_passing_from i ts ≡ Some (i + number, passed)
+  pub begins : BeginsAt bytes ts number start
+  pub byte_is : byte ≡ k + start
+
+pub passes_at : (i k : ℕ) (bytes : List ℕ) (ts : List Token) (s : IsSpaced bytes ts) (byte : ℕ) (passed : LimitName) → AreSolid ts → first_passed None k bytes ts s ≡ Some (byte, passed) → Passes i k bytes ts byte passed
+passes_at i k bytes [] s byte passed h e = cc
+passes_at i k bytes (t ∷ ts) s byte passed h e = by_passes (passes_at (i + 1) place s.1 ts s.4 byte passed parts.1) t.passes refl
+  where
+    parts : (is_solid t.text ≡ true) × AreSolid ts
+    parts = and_parts (is_solid t.text) (list_all is_solid (texts ts)) h
+
+    place : ℕ
+    place = k + length s.0 + length t.text
+
+    by_passes : (first_passed None place s.1 ts s.4 ≡ Some (byte, passed) → Passes (i + 1) place s.1 ts byte passed) → (o : Option LimitName) → t.passes ≡ o → Passes i k bytes (t ∷ ts) byte passed
+    by_passes later None p =
+        let rest = later (sym (ap (λ q. first_passed (noted_token None (k + length s.0) q) place s.1 ts s.4) p) ∙ e) in
+        record {
+          number = suc rest.number;
+          start = length s.0 + length t.text + rest.start;
+          first = ap (λ q. or_else (option_map (λ (m : LimitName). (i, m)) q) (first_passing_from (i + 1) ts)) p ∙ rest.first ∙ ap (λ j. Some (j, passed)) (omega arith);
+          begins = begins_later t ts bytes s rest.number rest.start rest.begins;
+          byte_is = omega (arith, rest.byte_is);
+        }
+    by_passes later (Some m) p =
+        let here : ◌≡◌ {A = Option (ℕ × LimitName)} (Some (k + length s.0, m)) (Some (byte, passed)) = sym (ap (λ q. first_passed (noted_token None (k + length s.0) q) place s.1 ts s.4) p ∙ kept (k + length s.0, m) place s.1 ts s.4) ∙ e in
+        let pair : ◌≡◌ {A = ℕ × LimitName} (k + length s.0, m) (byte, passed) = cc in
+        record {
+          number = 0;
+          start = length s.0;
+          first = ap (λ q. or_else (option_map (λ (l : LimitName). (i, l)) q) (first_passing_from (i + 1) ts)) p ∙ ap (λ l. Some (i, l)) (ap (λ (q : ℕ × LimitName). q.1) pair) ∙ ap (λ j. Some (j, passed)) (omega arith);
+          begins = begins_here t ts bytes s parts.0;
+          byte_is = omega (arith, ap (λ (q : ℕ × LimitName). q.0) pair);
+        }
+
+pub none_passes : (i k : ℕ) (bytes : List ℕ) (ts : List Token) (s : IsSpaced bytes ts) → first_passed None k bytes ts s ≡ None → first_passing_from i ts ≡ None
+none_passes i k bytes [] s e = refl
+none_passes i k bytes (t ∷ ts) s e = by_passes (none_passes (i + 1) place s.1 ts s.4) t.passes refl
+  where
+    place : ℕ
+    place = k + length s.0 + length t.text
+
+    by_passes : (first_passed None place s.1 ts s.4 ≡ None → first_passing_from (i + 1) ts ≡ None) → (o : Option LimitName) → t.passes ≡ o → first_passing_from i (t ∷ ts) ≡ None
+    by_passes later None p = ap (λ q. or_else (option_map (λ (m : LimitName). (i, m)) q) (first_passing_from (i + 1) ts)) p
+        ∙ later (sym (ap (λ q. first_passed (noted_token None (k + length s.0) q) place s.1 ts s.4) p) ∙ e)
+    by_passes later (Some m) p = let here : ◌≡◌ {A = Option (ℕ × LimitName)} None (Some (k + length s.0, m)) = sym e ∙ ap (λ q. first_passed (noted_token None (k + length s.0) q) place s.1 ts s.4) p ∙ kept (k + length s.0, m) place s.1 ts s.4 in cc

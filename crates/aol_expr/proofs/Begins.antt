@@ -1,5 +1,5 @@
 -- Where the first token that passes a limit begins.
-use Rattle.std.proofs.Common.{◌≡◌, ℕ, suc, ◌+◌, ◌≤◌, List, [], ◌∷◌, ◌++◌, length, take, drop, get_or, true, false, not, Option, Some, None, option_map, refl, sym, ◌∙◌, ap, subst, arith, append_assoc}
+use Rattle.std.proofs.Common.{◌≡◌, ℕ, zero, suc, ◌+◌, ◌<◌, ◌≤◌, List, [], ◌∷◌, ◌++◌, length, take, drop, get_or, Bool, true, false, not, Option, Some, None, option_map, refl, sym, ◌∙◌, ap, subst, arith, append_assoc}
 use Rattle.std.specs.List.{list_all}
 use Rattle.std.proofs.lemmas.Bool.{and_parts, not-true, false≢true}
 use Rattle.std.proofs.lemmas.List.{length-append, take_at, drop_at}
@@ -7,18 +7,11 @@ use Rattle.aol_shape.specs.declared.limit.LimitName.{LimitName}
 use Rattle.aol_shape.specs.Lists.{or_else}
 use Rattle.aol_shape.specs.Texts.{is_blank}
 use Rattle.aol_shape.specs.Tokens.{Token, IsSpaced, first_passing_from, BeginsAt}
+use Rattle.aol_expr.proofs.Tokens.{noted_token}
+use Rattle.aol_expr.proofs.Evidence.{first_passed}
 use Rattle.aol_expr.proofs.Gaps.{texts}
 use Rattle.aol_expr.proofs.Backwards.{no_blanks, is_solid}
 use Rattle.aol_expr.proofs.Solid.{AreSolid}
-
--- the first limit that is passed, with a token at this place
-abbrev pub noted_token : Option (ℕ × LimitName) → ℕ → Option LimitName → Option (ℕ × LimitName)
-noted_token passed k o = or_else passed (option_map (λ l. (k, l)) o)
-
--- the first limit that is passed behind all tokens, from this place and what is passed before on
-abbrev pub first_passed : Option (ℕ × LimitName) → ℕ → (bytes : List ℕ) → (ts : List Token) → IsSpaced bytes ts → Option (ℕ × LimitName)
-first_passed passed k bytes [] s = passed
-first_passed passed k bytes (t ∷ ts) s = first_passed (noted_token passed (k + length s.0) t.passes) (k + length s.0 + length t.text) s.1 ts s.4
 
 -- ---- where tokens begin
 

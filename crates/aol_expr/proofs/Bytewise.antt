@@ -1,5 +1,5 @@
 -- Reading goes on byte by byte.
-use Rattle.std.proofs.Common.{◌≡◌, ℕ, ◌+◌, List, [], ◌∷◌, Bool, true, false, cond, Option, Some, None, Result, Ok, Err, refl, sym, ◌∙◌, ap}
+use Rattle.std.proofs.Common.{◌≡◌, ℕ, ◌+◌, List, [], ◌∷◌, Bool, true, false, cond, Option, Some, None, Result, Err, refl, sym, ◌∙◌, ap}
 use Rattle.std.specs.Option.{is_some}
 use Rattle.aol_shape.specs.Grammar.{TextFault, at}
 use Rattle.aol_shape.specs.Machine.{behind, stuck_here, stuck_from}
@@ -12,6 +12,11 @@ use Rattle.aol_expr.specs.Reading.{recognizer, step, finished, ending, by_stuck,
 -- with the state behind the next byte
 abbrev next_from : ℕ → List ℕ → Option Reader → Result Tree TextFault
 next_from k bs o = by_stuck (stuck_here k o (stuck_from recognizer (k + 1) o bs)) (behind recognizer o bs)
+
+-- equal states behind the next byte
+pub same_step : (k : ℕ) (r s : Reader) (b : ℕ) (bs : List ℕ) → step r b ≡ step s b → reading_from k r (b ∷ bs) ≡ reading_from k s (b ∷ bs)
+unfolding reading_from
+same_step k r s b bs e = ap (next_from k bs) e
 
 -- a byte that fits
 pub goes_on : (k : ℕ) (r t : Reader) (b : ℕ) (bs : List ℕ) → Some t ≡ step r b → reading_from k r (b ∷ bs) ≡ reading_from (k + 1) t bs

@@ -1,5 +1,5 @@
 -- Trees with one more behind them.
-use Rattle.std.proofs.Common.{◌≡◌, ℕ, ◌+◌, max, List, [], ◌∷◌, ◌++◌, map, refl, sym, ap, ◌∙◌, arith}
+use Rattle.std.proofs.Common.{◌≡◌, ◌+◌, max, List, [], ◌∷◌, ◌++◌, map, refl, ap, ◌∙◌, arith}
 use Rattle.std.proofs.lemmas.List.{map-append}
 use Rattle.aol_expr.specs.declared.node.ExprNode.{ExprNode}
 use Rattle.aol_expr.specs.Node.{tree_of, trees_of}

@@ -32,3 +32,14 @@ mod Evaluation
 mod Bounds
 mod Nodes
 mod Plans
+pub mod Goes
+pub mod Grouping
+pub mod Tokens
+pub mod Spellings
+pub mod Evidence
+pub mod Operands
+pub mod Complete
+pub mod Arguments
+pub mod Whole
+pub mod Canonical
+pub mod Again

@@ -1,10 +1,9 @@
 -- Worked examples of the definitions, by computation.
 use Rattle.std.proofs.Common.{◌≡◌, refl, ℕ, ℤ, List, [], ◌∷◌, pos, negsuc, Result, Ok, Err, codes, true, false}
 use Rattle.std.specs.Fmt.{digits}
-use Rattle.aol_expr.specs.declared.op.ExprOp.TheVariants.{Add, Sub, Mul, Div, Rem}
+use Rattle.aol_expr.specs.declared.op.ExprOp.TheVariants.{Add, Mul, Div, Rem}
 use Rattle.aol_expr.specs.declared.value.Kind.{Kind}
 use Rattle.aol_expr.specs.declared.value.Kind.TheVariants.{Overflow, Divide, Index}
-use Rattle.aol_expr.specs.declared.port.Port.{Port}
 use Rattle.aol_expr.specs.Tree.{Tree, num, index, var, read, bin, if_else, sum, trees, work}
 use Rattle.aol_expr.specs.Meaning.{value}
 use Rattle.aol_expr.specs.Names.{names_ok}

@@ -36,7 +36,10 @@ mod writing;
 pub use cost::work;
 pub use evaluate::eval;
 pub use expr::{Expr, ExprRefused};
-pub use laws::expressions_have_one_reading;
+pub use laws::{
+    expressions_are_read_again, expressions_are_read_right, expressions_are_spelled,
+    expressions_have_one_reading,
+};
 pub use names::names_ok;
 pub use node::ExprNode;
 pub use op::ExprOp;

@@ -1,6 +1,6 @@
 ghost use Rattle.std.specs.Prelude.{◌≡◌, ◌<◌, ◌^◌, length, IfOk};
 ghost use Rattle.aol_expr.specs.Reading.{expr_reading, ending, answered, finished};
-ghost use Rattle.aol_expr.specs.Answers.{Gives};
+ghost use Rattle.aol_expr.specs.Answers.{Gives, IsRight};
 ghost use Rattle.aol_expr.specs.Tree.{IsExpr};
 ghost use Rattle.aol_expr.specs.Node.{tree_of};
 
@@ -14,8 +14,18 @@ use std::alloc::Global;
 /// The expression that a text spells: `At` with the length of the longest front with which a text
 /// goes on, or `Limit` with the byte and the name of the first limit that is passed. Numbers and
 /// bounds of sums are tested from left to right, then the nodes of the tree, then its depth.
-#[tactic(auto, using(crate::proofs::Bytewise::goes_on, crate::proofs::Bytewise::stops, crate::proofs::Bytewise::ends_at), unfolding(crate::specs::Reading::expr_reading))]
 pub fn read_expr(alloc: Global, text: &str) -> Result<Expr, ExprRefused>
+    requires { length text.now < 2 ^ 32 }
+    ensures read { Gives result (expr_reading text.now) }
+    ensures right { IsRight text.now result }
+    ensures limits { IfOk result IsExpr }
+{
+    read_bytes(alloc, text)
+}
+
+/// What reading answers, byte by byte.
+#[tactic(auto, using(crate::proofs::Bytewise::goes_on, crate::proofs::Bytewise::stops, crate::proofs::Bytewise::ends_at), unfolding(crate::specs::Reading::expr_reading))]
+fn read_bytes(alloc: Global, text: &str) -> Result<Expr, ExprRefused>
     requires { length text.now < 2 ^ 32 }
     ensures read { Gives result (expr_reading text.now) }
     ensures limits { IfOk result IsExpr }

@@ -128,7 +128,7 @@ fn written(alloc: Global, text: &str) -> Result<String, Fail> {
             let tree = value_of(alloc, &model, &job)?;
             Ok(tree.to_string(alloc)?)
         }
-        Err(_) => Ok(String::from_str(alloc, "refused")?),
+        Err(_) => verdict(alloc, text),
     }
 }
 

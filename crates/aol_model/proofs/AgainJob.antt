@@ -1,5 +1,5 @@
 -- Inputs, steps and entries that were read are read again.
-use Rattle.std.proofs.Common.{◌≡◌, ℕ, ◌+◌, ℤ, List, [], ◌∷◌, map, length, Bool, true, false, ◌&&◌, nat_le, nat_lt, Result, Ok, refl, sym, ap, ◌∙◌, if◌then◌else◌, codes}
+use Rattle.std.proofs.Common.{◌≡◌, ℕ, ◌+◌, ℤ, List, [], ◌∷◌, map, length, Bool, true, false, ◌&&◌, nat_le, nat_lt, Ok, refl, sym, ap, ◌∙◌, if◌then◌else◌, codes}
 use Rattle.std.specs.List.{AllByRecursion, list_all}
 use Rattle.std.specs.Ordering.{nat_cmp, match_ordering}
 use Rattle.std.specs.declared.cmp.Ordering.{Ordering}
@@ -21,7 +21,7 @@ use Rattle.aol_model.specs.Reading.{At, name_at, shape_at, tiler_at, ◌>>=◌, 
 use Rattle.aol_model.specs.Writing.{list_tree, integer_tree, members_from, input_member, object_of, pick_tree, step_tree, entry_tree}
 use Rattle.aol_model.proofs.AgainSteps.{Was, Reads, same_answer, went, was_right, formed, took, goes}
 use Rattle.aol_model.proofs.AgainLists.{list_again}
-use Rattle.aol_model.proofs.AgainTexts.{TextsReadAgain, text_read, name_read, shape_read, tiler_read, integer_read}
+use Rattle.aol_model.proofs.AgainTexts.{text_read, name_read, shape_read, tiler_read, integer_read}
 
 -- ---- inputs
 
@@ -113,31 +113,31 @@ pave_read : (s : Step) → Was pave_at s → IsStep s → Reads step_at (step_tr
 pave_read s w types at = took w.0 w.1 KTask name_at (formed (KKind ∷ KTask ∷ KOuter ∷ KBlock ∷ []) [] w.0 w.1 w.2) (λ t task e. took w.0 w.1 KOuter shape_at e (λ o _ e. took w.0 w.1 KBlock shape_at e (λ b _ last.
     same_answer last (λ q. IsStep q → step_at at (step_tree q) ≡ Ok q) (λ is. goes _ (name_read t task (to_key at KTask)) (goes _ (shape_read o is.0 (to_key at KOuter)) (goes _ (shape_read b is.1 (to_key at KBlock)) refl))) types)))
 
-pick_read : TextsReadAgain → (p : Pick) → Was pick_at p → IsPick p → Reads pick_at (pick_tree p) p
-pick_read texts p w types at = took w.0 w.1 KTo name_at (formed (KTo ∷ KFrom ∷ KTiler ∷ []) [] w.0 w.1 w.2) (λ t to e. took w.0 w.1 KFrom name_at e (λ f from e. took w.0 w.1 KTiler tiler_at e (λ b _ last.
-    same_answer last (λ q. IsPick q → pick_at at (pick_tree q) ≡ Ok q) (λ is. goes _ (name_read t to (to_key at KTo)) (goes _ (name_read f from (to_key at KFrom)) (goes _ (tiler_read texts b is (to_key at KTiler)) refl))) types)))
+pick_read : (p : Pick) → Was pick_at p → IsPick p → Reads pick_at (pick_tree p) p
+pick_read p w types at = took w.0 w.1 KTo name_at (formed (KTo ∷ KFrom ∷ KTiler ∷ []) [] w.0 w.1 w.2) (λ t to e. took w.0 w.1 KFrom name_at e (λ f from e. took w.0 w.1 KTiler tiler_at e (λ b _ last.
+    same_answer last (λ q. IsPick q → pick_at at (pick_tree q) ≡ Ok q) (λ is. goes _ (name_read t to (to_key at KTo)) (goes _ (name_read f from (to_key at KFrom)) (goes _ (tiler_read b is (to_key at KTiler)) refl))) types)))
 
-fuse_read : TextsReadAgain → (s : Step) → Was fuse_at s → IsStep s → Reads step_at (step_tree s) s
-fuse_read texts s w types at = took w.0 w.1 KTask name_at (formed (KKind ∷ KTask ∷ KFirst ∷ KSecond ∷ KBlock ∷ KTiler ∷ KPicks ∷ []) [] w.0 w.1 w.2) (λ t task e. took w.0 w.1 KFirst name_at e (λ f first e. took w.0 w.1 KSecond name_at e (λ g second e. took w.0 w.1 KBlock shape_at e (λ b _ e. took w.0 w.1 KTiler tiler_at e (λ l _ e. took w.0 w.1 KPicks (list_of pick_at) e (λ picks are_picks last.
+fuse_read : (s : Step) → Was fuse_at s → IsStep s → Reads step_at (step_tree s) s
+fuse_read s w types at = took w.0 w.1 KTask name_at (formed (KKind ∷ KTask ∷ KFirst ∷ KSecond ∷ KBlock ∷ KTiler ∷ KPicks ∷ []) [] w.0 w.1 w.2) (λ t task e. took w.0 w.1 KFirst name_at e (λ f first e. took w.0 w.1 KSecond name_at e (λ g second e. took w.0 w.1 KBlock shape_at e (λ b _ e. took w.0 w.1 KTiler tiler_at e (λ l _ e. took w.0 w.1 KPicks (list_of pick_at) e (λ picks are_picks last.
     same_answer last (λ q. IsStep q → step_at at (step_tree q) ≡ Ok q)
-    (λ is. goes _ (name_read t task (to_key at KTask)) (goes _ (name_read f first (to_key at KFirst)) (goes _ (name_read g second (to_key at KSecond)) (goes _ (shape_read b is.0 (to_key at KBlock)) (goes _ (tiler_read texts l is.1 (to_key at KTiler)) (goes _ (list_again pick_at pick_at pick_tree IsPick (pick_read texts) picks are_picks is.2 (to_key at KPicks)) refl))))))
+    (λ is. goes _ (name_read t task (to_key at KTask)) (goes _ (name_read f first (to_key at KFirst)) (goes _ (name_read g second (to_key at KSecond)) (goes _ (shape_read b is.0 (to_key at KBlock)) (goes _ (tiler_read l is.1 (to_key at KTiler)) (goes _ (list_again pick_at pick_at pick_tree IsPick pick_read picks are_picks is.2 (to_key at KPicks)) refl))))))
     types))))))
 
-pub step_read : TextsReadAgain → (s : Step) → Was step_at s → IsStep s → Reads step_at (step_tree s) s
-step_read texts s w types = went (kind_at (codes "tile" ∷ codes "pave" ∷ codes "fuse" ∷ []) w.0 w.1) w.2 (λ k _ e. by_kind (same k (codes "tile")) (same k (codes "pave")) e)
+pub step_read : (s : Step) → Was step_at s → IsStep s → Reads step_at (step_tree s) s
+step_read s w types = went (kind_at (codes "tile" ∷ codes "pave" ∷ codes "fuse" ∷ []) w.0 w.1) w.2 (λ k _ e. by_kind (same k (codes "tile")) (same k (codes "pave")) e)
   where
     by_kind : (tile pave : Bool) → (if tile then tile_at w.0 w.1 else (if pave then pave_at w.0 w.1 else fuse_at w.0 w.1)) ≡ Ok s → Reads step_at (step_tree s) s
     by_kind true pave e = tile_read s (w.0, w.1, e) types
     by_kind false true e = pave_read s (w.0, w.1, e) types
-    by_kind false false e = fuse_read texts s (w.0, w.1, e) types
+    by_kind false false e = fuse_read s (w.0, w.1, e) types
 
 -- ---- entries
 
 leaf_read : (l : List ℕ) → Was leaf_at l → Reads leaf_at (string l) l
 leaf_read = text_read (λ t. nat_le 1 (length t) && nat_le (length t) 4096 && list_all (λ b. nat_lt b 128) t)
 
-pub entry_read : TextsReadAgain → (n : Entry) → Was entry_at n → IsEntry n → Reads entry_at (entry_tree n) n
-entry_read texts n w types at = took w.0 w.1 KLeaf leaf_at (formed (KLeaf ∷ KProcessors ∷ KSpace ∷ KPattern ∷ KFrom ∷ KTo ∷ []) [] w.0 w.1 w.2) (λ l leaf e. took w.0 w.1 KProcessors shape_at e (λ r _ e. took w.0 w.1 KSpace shape_at e (λ s _ e. took w.0 w.1 KPattern shape_at e (λ p _ e. took w.0 w.1 KFrom tiler_at e (λ f _ e. took w.0 w.1 KTo tiler_at e (λ t _ last.
+pub entry_read : (n : Entry) → Was entry_at n → IsEntry n → Reads entry_at (entry_tree n) n
+entry_read n w types at = took w.0 w.1 KLeaf leaf_at (formed (KLeaf ∷ KProcessors ∷ KSpace ∷ KPattern ∷ KFrom ∷ KTo ∷ []) [] w.0 w.1 w.2) (λ l leaf e. took w.0 w.1 KProcessors shape_at e (λ r _ e. took w.0 w.1 KSpace shape_at e (λ s _ e. took w.0 w.1 KPattern shape_at e (λ p _ e. took w.0 w.1 KFrom tiler_at e (λ f _ e. took w.0 w.1 KTo tiler_at e (λ t _ last.
     same_answer last (λ q. IsEntry q → entry_at at (entry_tree q) ≡ Ok q)
-    (λ is. goes _ (leaf_read l leaf (to_key at KLeaf)) (goes _ (shape_read r is.processors (to_key at KProcessors)) (goes _ (shape_read s is.space (to_key at KSpace)) (goes _ (shape_read p is.pattern (to_key at KPattern)) (goes _ (tiler_read texts f is.from (to_key at KFrom)) (goes _ (tiler_read texts t is.to (to_key at KTo)) refl))))))
+    (λ is. goes _ (leaf_read l leaf (to_key at KLeaf)) (goes _ (shape_read r is.processors (to_key at KProcessors)) (goes _ (shape_read s is.space (to_key at KSpace)) (goes _ (shape_read p is.pattern (to_key at KPattern)) (goes _ (tiler_read f is.from (to_key at KFrom)) (goes _ (tiler_read t is.to (to_key at KTo)) refl))))))
     types))))))

@@ -1,8 +1,8 @@
 -- Repetitions, and the defaults of their links, that were read in either version are read again.
-use Rattle.std.proofs.Common.{◌≡◌, ℕ, suc, ◌+◌, ◌<◌, ◌≤◌, ◌^◌, ℤ, pos, negsuc, List, [], ◌∷◌, length, Bool, true, false, nat_le, nat_lt, codes, is_some, Option, Some, None, Result, Ok, Err, refl, ap, ◌∙◌, if◌then◌else◌, arith}
+use Rattle.std.proofs.Common.{◌≡◌, ℕ, ◌≤◌, ◌^◌, ℤ, pos, negsuc, List, [], ◌∷◌, length, Bool, true, false, nat_le, nat_lt, codes, is_some, Option, Some, None, Result, Ok, Err, refl, if◌then◌else◌, arith}
 use Rattle.std.specs.List.{AllByRecursion}
 use Rattle.std.proofs.lemmas.Bool.{leb-true, lt-ltb}
-use Rattle.serde_json.specs.Data.{Data, null, number, unsigned}
+use Rattle.serde_json.specs.Data.{null, number, unsigned}
 use Rattle.serde_json.specs.Find.{as_object}
 use Rattle.aol_shape.specs.Lists.{same}
 use Rattle.aol_shape.specs.declared.limit.LimitName.TheVariants.{Choices}
@@ -11,7 +11,7 @@ use Rattle.aol_link.specs.declared.link.Choice.{Choice}
 use Rattle.aol_link.specs.declared.link.When.{When}
 use Rattle.aol_link.specs.declared.link.When.TheVariants.{Always, Low, High}
 use Rattle.aol_link.specs.declared.link.Fallback.{Fallback}
-use Rattle.aol_link.specs.declared.link.Fallback.TheVariants.{Number, Tiled}
+use Rattle.aol_link.specs.declared.link.Fallback.TheVariants.{Number}
 use Rattle.aol_link.specs.Types.{IsFallback, IsChoice, IsInterlink}
 use Rattle.aol_model.specs.declared.place.Key.TheVariants.{KKind, KName, KIn, KOut, KModulo, KSpace, KTask, KTilers, KLinks, KFrom, KTo, KDistance, KDefault, KOuter, KTiler, KDimension, KSide, KValue}
 use Rattle.aol_model.specs.declared.task.Task.{Task}
@@ -21,24 +21,24 @@ use Rattle.aol_model.specs.Reading.{At, name_at, shape_at, vector_at, tiler_at, 
 use Rattle.aol_model.specs.Writing.{fallback_tree, choice_tree, list_tree, interlink_tree, port_tree, tiler_on_tree, task_tree}
 use Rattle.aol_model.proofs.AgainSteps.{Was, Reads, same_answer, went, was_right, formed, took, goes}
 use Rattle.aol_model.proofs.AgainLists.{list_again, bounded_was, bounded_again}
-use Rattle.aol_model.proofs.AgainTexts.{TextsReadAgain, name_read, shape_read, vector_read, tiler_read, integer_read}
+use Rattle.aol_model.proofs.AgainTexts.{name_read, shape_read, vector_read, tiler_read, integer_read}
 use Rattle.aol_model.proofs.AgainTasks.{port_read, outputs_read, tiler_on_read}
 
 -- ---- the value of a choice
 
-tiled_read : TextsReadAgain → (f : Fallback) → Was tiled_at f → IsFallback f → Reads fallback_at (fallback_tree f) f
-tiled_read texts f w types at = took w.0 w.1 KOuter name_at (formed (KOuter ∷ KTiler ∷ []) [] w.0 w.1 w.2) (λ o outer e. took w.0 w.1 KTiler tiler_at e (λ t _ last.
-    same_answer last (λ g. IsFallback g → fallback_at at (fallback_tree g) ≡ Ok g) (λ is. goes _ (name_read o outer (to_key at KOuter)) (goes _ (tiler_read texts t is (to_key at KTiler)) refl)) types))
+tiled_read : (f : Fallback) → Was tiled_at f → IsFallback f → Reads fallback_at (fallback_tree f) f
+tiled_read f w types at = took w.0 w.1 KOuter name_at (formed (KOuter ∷ KTiler ∷ []) [] w.0 w.1 w.2) (λ o outer e. took w.0 w.1 KTiler tiler_at e (λ t _ last.
+    same_answer last (λ g. IsFallback g → fallback_at at (fallback_tree g) ≡ Ok g) (λ is. goes _ (name_read o outer (to_key at KOuter)) (goes _ (tiler_read t is (to_key at KTiler)) refl)) types))
 
 number_read : (z : ℤ) → IsFallback (Number z) → Reads fallback_at (fallback_tree (Number z)) (Number z)
 number_read (pos n) is at = goes _ (integer_read (pos n) is at) refl
 number_read (negsuc n) is at = refl
 
-fallback_read : TextsReadAgain → (f : Fallback) → Was fallback_at f → IsFallback f → Reads fallback_at (fallback_tree f) f
-fallback_read texts f w types at = by_form (is_some (as_object w.1)) w.2
+fallback_read : (f : Fallback) → Was fallback_at f → IsFallback f → Reads fallback_at (fallback_tree f) f
+fallback_read f w types at = by_form (is_some (as_object w.1)) w.2
   where
     by_form : (tiled : Bool) → (if tiled then tiled_at w.0 w.1 else (integer_at w.0 w.1 >>= (λ z. Ok (Number z)))) ≡ Ok f → fallback_at at (fallback_tree f) ≡ Ok f
-    by_form true e = tiled_read texts f (w.0, w.1, e) types at
+    by_form true e = tiled_read f (w.0, w.1, e) types at
     by_form false e = went (integer_at w.0 w.1) e (λ z _ last. same_answer last (λ g. IsFallback g → fallback_at at (fallback_tree g) ≡ Ok g) (λ is. number_read z is at) types)
 
 -- ---- choices
@@ -89,34 +89,34 @@ choice_with Always f is take at = goes _ (take (to_key at KValue)) refl
 choice_with (Low k) f is take at = goes _ (dimension_read k is (to_key at KDimension)) (goes _ (take (to_key at KValue)) refl)
 choice_with (High k) f is take at = goes _ (dimension_read k is (to_key at KDimension)) (goes _ (take (to_key at KValue)) refl)
 
-choice_read : TextsReadAgain → (c : Choice) → Was choice_at c → IsChoice c → Reads choice_at (choice_tree c) c
-choice_read texts c w types at = took w.0 w.1 KDimension dimension_at (formed (KDimension ∷ KSide ∷ KValue ∷ []) [] w.0 w.1 w.2) (λ d dimension e. took w.0 w.1 KSide (side_at d) e (λ s side e. took w.0 w.1 KValue fallback_at e (λ f take last.
-    same_answer last (λ q. IsChoice q → choice_at at (choice_tree q) ≡ Ok q) (λ is. choice_with s f (when_was d s (dimension_was d dimension) side) (fallback_read texts f take is) at) types)))
+choice_read : (c : Choice) → Was choice_at c → IsChoice c → Reads choice_at (choice_tree c) c
+choice_read c w types at = took w.0 w.1 KDimension dimension_at (formed (KDimension ∷ KSide ∷ KValue ∷ []) [] w.0 w.1 w.2) (λ d dimension e. took w.0 w.1 KSide (side_at d) e (λ s side e. took w.0 w.1 KValue fallback_at e (λ f take last.
+    same_answer last (λ q. IsChoice q → choice_at at (choice_tree q) ≡ Ok q) (λ is. choice_with s f (when_was d s (dimension_was d dimension) side) (fallback_read f take is) at) types)))
 
 -- nothing where the link wraps, one choice in version 1, choices in version 2
-default_read : TextsReadAgain → (later wraps : Bool) (rest : List Choice) → Was (default_at later wraps) rest → AllByRecursion IsChoice rest → Reads (default_at true wraps) (if wraps then null else list_tree choice_tree rest) rest
-default_read texts later true rest w types at = (was_right w.0 (is_null w.1) (Ok []) rest w.2).1
-default_read texts true false rest w types at = bounded_again choice_at choice_at choice_tree IsChoice (choice_read texts) Choices (λ n. nat_le n max_choices) rest (bounded_was choice_at Choices (λ n. nat_le n max_choices) rest w) types at
-default_read texts false false rest w types at = went (fallback_at w.0 w.1) w.2 (λ f was last.
-    same_answer last (λ q. AllByRecursion IsChoice q → default_at true false at (list_tree choice_tree q) ≡ Ok q) (λ is. goes _ (choice_with Always f tt (fallback_read texts f (w.0, w.1, was) is.0) (to_index at 0)) refl) types)
+default_read : (later wraps : Bool) (rest : List Choice) → Was (default_at later wraps) rest → AllByRecursion IsChoice rest → Reads (default_at true wraps) (if wraps then null else list_tree choice_tree rest) rest
+default_read later true rest w types at = (was_right w.0 (is_null w.1) (Ok []) rest w.2).1
+default_read true false rest w types at = bounded_again choice_at choice_at choice_tree IsChoice choice_read Choices (λ n. nat_le n max_choices) rest (bounded_was choice_at Choices (λ n. nat_le n max_choices) rest w) types at
+default_read false false rest w types at = went (fallback_at w.0 w.1) w.2 (λ f was last.
+    same_answer last (λ q. AllByRecursion IsChoice q → default_at true false at (list_tree choice_tree q) ≡ Ok q) (λ is. goes _ (choice_with Always f tt (fallback_read f (w.0, w.1, was) is.0) (to_index at 0)) refl) types)
 
 -- ---- repetitions
 
-interlink_read : TextsReadAgain → (later : Bool) (l : Interlink) → Was (interlink_at later) l → IsInterlink l → Reads (interlink_at true) (interlink_tree l) l
-interlink_read texts later l w types at = took w.0 w.1 KFrom name_at (formed (KFrom ∷ KTo ∷ KDistance ∷ KModulo ∷ KDefault ∷ []) [] w.0 w.1 w.2) (λ f from e. took w.0 w.1 KTo name_at e (λ t to e. took w.0 w.1 KDistance vector_at e (λ v _ e. took w.0 w.1 KModulo truth_at e (λ wraps _ e. took w.0 w.1 KDefault (default_at later wraps) e (λ rest default last.
+interlink_read : (later : Bool) (l : Interlink) → Was (interlink_at later) l → IsInterlink l → Reads (interlink_at true) (interlink_tree l) l
+interlink_read later l w types at = took w.0 w.1 KFrom name_at (formed (KFrom ∷ KTo ∷ KDistance ∷ KModulo ∷ KDefault ∷ []) [] w.0 w.1 w.2) (λ f from e. took w.0 w.1 KTo name_at e (λ t to e. took w.0 w.1 KDistance vector_at e (λ v _ e. took w.0 w.1 KModulo truth_at e (λ wraps _ e. took w.0 w.1 KDefault (default_at later wraps) e (λ rest default last.
     same_answer last (λ q. IsInterlink q → interlink_at true at (interlink_tree q) ≡ Ok q)
-    (λ is. goes _ (name_read f from (to_key at KFrom)) (goes _ (name_read t to (to_key at KTo)) (goes _ (vector_read v is.distance (to_key at KDistance)) (goes _ (default_read texts later wraps rest default is.choices (to_key at KDefault)) refl))))
+    (λ is. goes _ (name_read f from (to_key at KFrom)) (goes _ (name_read t to (to_key at KTo)) (goes _ (vector_read v is.distance (to_key at KDistance)) (goes _ (default_read later wraps rest default is.choices (to_key at KDefault)) refl))))
     types)))))
 
-pub repeated_read : TextsReadAgain → (later : Bool) (t : Task) → Was (repeated_at later) t → IsTask t → Reads (task_at true) (task_tree t) t
-repeated_read texts later t w types at = took w.0 w.1 KName name_at (formed (KKind ∷ KName ∷ KIn ∷ KOut ∷ KSpace ∷ KTask ∷ KTilers ∷ KLinks ∷ []) [] w.0 w.1 w.2) (λ n name e. took w.0 w.1 KIn (list_of port_at) e (λ ins are_in e. took w.0 w.1 KOut (outputs_of (length ins) port_at) e (λ outs are_out e. took w.0 w.1 KSpace shape_at e (λ space _ e. took w.0 w.1 KTask name_at e (λ task task_name e. took w.0 w.1 KTilers (list_of tiler_on_at) e (λ tilers are_tilers e. took w.0 w.1 KLinks (list_of (interlink_at later)) e (λ links are_links last.
+pub repeated_read : (later : Bool) (t : Task) → Was (repeated_at later) t → IsTask t → Reads (task_at true) (task_tree t) t
+repeated_read later t w types at = took w.0 w.1 KName name_at (formed (KKind ∷ KName ∷ KIn ∷ KOut ∷ KSpace ∷ KTask ∷ KTilers ∷ KLinks ∷ []) [] w.0 w.1 w.2) (λ n name e. took w.0 w.1 KIn (list_of port_at) e (λ ins are_in e. took w.0 w.1 KOut (outputs_of (length ins) port_at) e (λ outs are_out e. took w.0 w.1 KSpace shape_at e (λ space _ e. took w.0 w.1 KTask name_at e (λ task task_name e. took w.0 w.1 KTilers (list_of tiler_on_at) e (λ tilers are_tilers e. took w.0 w.1 KLinks (list_of (interlink_at later)) e (λ links are_links last.
     same_answer last (λ q. IsTask q → task_at true at (task_tree q) ≡ Ok q)
     (λ is. goes _ (name_read n name (to_key at KName))
     (goes _ (list_again port_at port_at port_tree IsPort port_read ins are_in is.ins (to_key at KIn))
     (goes _ (outputs_read (length ins) port_at port_tree IsPort port_read outs are_out is.outs (to_key at KOut))
     (goes _ (shape_read space is.space (to_key at KSpace))
     (goes _ (name_read task task_name (to_key at KTask))
-    (goes _ (list_again tiler_on_at tiler_on_at tiler_on_tree IsTilerOn (tiler_on_read texts) tilers are_tilers is.tilers (to_key at KTilers))
-    (goes _ (list_again (interlink_at later) (interlink_at true) interlink_tree IsInterlink (interlink_read texts later) links are_links is.links (to_key at KLinks))
+    (goes _ (list_again tiler_on_at tiler_on_at tiler_on_tree IsTilerOn tiler_on_read tilers are_tilers is.tilers (to_key at KTilers))
+    (goes _ (list_again (interlink_at later) (interlink_at true) interlink_tree IsInterlink (interlink_read later) links are_links is.links (to_key at KLinks))
     refl)))))))
     types)))))))

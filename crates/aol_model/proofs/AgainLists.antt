@@ -5,7 +5,7 @@ use Rattle.std.proofs.lemmas.List.{length-map}
 use Rattle.serde_json.specs.Data.{Data}
 use Rattle.aol_shape.specs.declared.limit.LimitName.{LimitName}
 use Rattle.aol_model.specs.Places.{to_index}
-use Rattle.aol_model.specs.Reading.{At, Fault, ◌>>=◌, ◌>>◌, needs, within, items_list, list_at, filled_list_at, elements, list_of}
+use Rattle.aol_model.specs.Reading.{At, Fault, ◌>>=◌, ◌>>◌, within, items_list, list_at, filled_list_at, elements, list_of}
 use Rattle.aol_model.specs.Writing.{items_from, list_tree}
 use Rattle.aol_model.proofs.AgainSteps.{Was, Reads, same_answer, went, was_right, was_within, goes}
 

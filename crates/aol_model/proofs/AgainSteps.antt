@@ -1,5 +1,5 @@
 -- What a reader that went on had read, and the same steps again.
-use Rattle.std.proofs.Common.{◌≡◌, List, Bool, true, false, Result, Ok, Err, refl, subst}
+use Rattle.std.proofs.Common.{◌≡◌, List, Bool, true, false, Result, Ok, refl, subst}
 use Rattle.serde_json.specs.Data.{Data}
 use Rattle.serde_json.specs.Find.{get}
 use Rattle.aol_shape.specs.declared.limit.LimitName.{LimitName}

@@ -1,30 +1,26 @@
 -- Texts, numbers and ends that were read are read again.
-use Rattle.std.proofs.Common.{◌≡◌, ℕ, suc, ◌+◌, ℤ, pos, negsuc, List, [], ◌∷◌, ◌++◌, Bool, true, false, ◌&&◌, ◌||◌, nat_lt, nat_le, ◌^◌, cond, eqb, not, take, drop, Option, Some, None, Result, Ok, Err, refl, sym, ap, ◌∙◌, if◌then◌else◌, arith}
+use Rattle.std.proofs.Common.{◌≡◌, ℕ, suc, ◌+◌, ℤ, pos, negsuc, List, [], ◌∷◌, ◌++◌, Bool, true, false, ◌&&◌, ◌||◌, nat_lt, ◌^◌, cond, not, take, drop, Some, None, Result, Ok, refl, sym, ap, ◌∙◌, if◌then◌else◌, arith}
 use Rattle.std.specs.List.{list_any, position_or_len, before_first, after_first}
 use Rattle.std.proofs.lemmas.Bool.{eqb-true}
 use Rattle.serde_json.specs.Data.{Data, string}
-use Rattle.serde_json.specs.Find.{as_i64}
 use Rattle.aol_shape.specs.Numbers.{fits_64}
 use Rattle.aol_shape.specs.Shape.{IsShape}
 use Rattle.aol_shape.specs.Vectors.{IsVector}
 use Rattle.aol_shape.specs.Texts.{is_name}
 use Rattle.aol_tiler.specs.Tiler.{IsTiler}
 use Rattle.aol_tiler.specs.Matrices.{TilerOf}
-use Rattle.aol_vsl.specs.Text.{vector_text, tiler_text}
-use Rattle.aol_vsl.specs.Reading.{tiler_reading}
+use Rattle.aol_vsl.specs.Text.{vector_text}
 use Rattle.aol_vsl.proofs.Again.{shape_again, vector_again}
+use Rattle.aol_vsl.proofs.TilersAgain.{tiler_again}
+use Rattle.aol_expr.proofs.Again.{read_again}
 use Rattle.aol_expr.specs.Tree.{Tree, IsExpr}
-use Rattle.aol_expr.specs.Reading.{expr_reading}
 use Rattle.aol_expr.specs.Writing.{expr_text}
 use Rattle.aol_model.specs.declared.task.Hook.{Hook}
 use Rattle.aol_model.specs.Reading.{At, Fault, ◌>>=◌, ◌>>◌, needs, placed, found, text_at, name_at, shape_at, vector_at, tiler_at, expr_at, integer_at, is_dot, hook_at}
 use Rattle.aol_model.specs.Writing.{shape_tree, tiler_tree, integer_tree, hook_tree}
 use Rattle.aol_model.proofs.AgainSteps.{Was, Reads, same_answer, went, was_right}
 
--- the texts of tilers and of expressions are read again
-pub record TextsReadAgain : Type 0 where
-  pub tiler : (t : TilerOf) → IsTiler t → tiler_reading (tiler_text t) ≡ Ok t
-  pub expr : (e : Tree) → IsExpr e → expr_reading (expr_text e) ≡ Ok e
+-- ---- canonical texts
 
 pub shape_read : (s : List ℕ) → IsShape s → Reads shape_at (shape_tree s) s
 shape_read s is at = ap (placed at) (shape_again s is)
@@ -32,11 +28,11 @@ shape_read s is at = ap (placed at) (shape_again s is)
 pub vector_read : (v : List ℤ) → IsVector v → Reads vector_at (string (vector_text v)) v
 vector_read v is at = ap (placed at) (vector_again v is)
 
-pub tiler_read : TextsReadAgain → (t : TilerOf) → IsTiler t → Reads tiler_at (tiler_tree t) t
-tiler_read texts t is at = ap (placed at) (texts.tiler t is)
+pub tiler_read : (t : TilerOf) → IsTiler t → Reads tiler_at (tiler_tree t) t
+tiler_read t is at = ap (placed at) (tiler_again t is)
 
-pub expr_read : TextsReadAgain → (e : Tree) → IsExpr e → Reads expr_at (string (expr_text e)) e
-expr_read texts e is at = ap (placed at) (texts.expr e is)
+pub expr_read : (e : Tree) → IsExpr e → Reads expr_at (string (expr_text e)) e
+expr_read e is at = ap (placed at) (read_again e is)
 
 -- ---- texts that pass a test
 

@@ -1,7 +1,8 @@
-ghost use Rattle.std.specs.Prelude.{◌≡◌, IfOk, true, false};
+ghost use Rattle.std.specs.Prelude.{◌≡◌, IfOk, true, false, Ok};
 ghost use Rattle.serde_json.specs.View.{view};
 ghost use Rattle.serde_json.specs.Written.{has_float};
 ghost use Rattle.aol_model.specs.Readable.{IsReadable};
+ghost use Rattle.aol_model.specs.Reading.{document_in};
 ghost use Rattle.aol_model.specs.Trees.{IsWritten, is_tree};
 ghost use Rattle.aol_model.specs.Types.{IsModel, IsJob};
 ghost use Rattle.aol_model.specs.Writing.{model_tree, document_tree};
@@ -42,8 +43,8 @@ fn document_of(alloc: Global, model: &Model, job: &Job) -> Result<Value, NoMemor
 
 /// The tree of a document, in version 2 and with canonical texts.
 ///
-/// Model and job are within the types' limits and were read from trees. The tree has its keys in byte order, its
-/// numbers in 64 bits and no floats. Answers `NoMemory` only where memory is wanting.
+/// Model and job are within the types' limits, and some trees stand for them. The tree has its keys in byte order, its
+/// numbers in 64 bits and no floats, and is read as the same document.
 pub fn value_of(alloc: Global, model: &Model, job: &Job) -> Result<Value, NoMemory>
     requires model { IsModel model.now }
     requires job { IsJob job.now }
@@ -51,6 +52,8 @@ pub fn value_of(alloc: Global, model: &Model, job: &Job) -> Result<Value, NoMemo
     ensures tree { IfOk result (λ v. view v ≡ document_tree model.now job.now) }
     ensures held { IfOk result (λ v. is_tree (view v) ≡ true) }
     ensures whole { IfOk result (λ v. has_float (view v) ≡ false) }
+    ensures again { IfOk result (λ v. document_in (view v) ≡ Ok (record { model = model.now; job = job.now })) }
 {
-    document_of(alloc, model, job)
+    let tree = document_of(alloc, model, job)?;
+    Ok(tree)
 }

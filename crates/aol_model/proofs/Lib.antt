@@ -17,3 +17,4 @@ pub mod AgainTasks
 pub mod AgainLinks
 pub mod AgainJob
 pub mod Again
+pub mod NamePlaces

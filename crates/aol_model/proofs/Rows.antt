@@ -1,12 +1,10 @@
 -- Worked examples of the definitions, by computation.
-use Rattle.std.proofs.Common.{◌≡◌, refl, [], ◌∷◌, pos, negsuc, Some, None, Ok, Err, codes, true, false, replicate}
+use Rattle.std.proofs.Common.{◌≡◌, refl, [], ◌∷◌, pos, negsuc, Some, None, Err, codes, true, false, replicate}
 use Rattle.std.specs.Fmt.{digits}
-use Rattle.serde_json.specs.Data.{Data, null, boolean, number, unsigned, negative, string, array, object, no_items, no_members, member}
+use Rattle.serde_json.specs.Data.{Data, null, number, unsigned, negative, string, array, object, no_items, no_members, member}
 use Rattle.aol_shape.specs.declared.limit.LimitName.TheVariants as limits
-use Rattle.aol_expr.specs.declared.op.ExprOp.TheVariants.{Add, Mul}
-use Rattle.aol_expr.specs.declared.value.Width.TheVariants.{Int16, Int64}
-use Rattle.aol_expr.specs.declared.value.Val.TheVariants.{Num, Bad}
-use Rattle.aol_expr.specs.declared.value.Kind.TheVariants.{Range}
+use Rattle.aol_expr.specs.declared.op.ExprOp.TheVariants.{Add}
+use Rattle.aol_expr.specs.declared.value.Width.TheVariants.{Int64}
 use Rattle.aol_expr.specs.Tree.{Tree, num, index, read, bin, trees}
 use Rattle.aol_link.specs.declared.link.When.TheVariants.{Always, Low}
 use Rattle.aol_link.specs.declared.link.Fallback.TheVariants.{Number}
@@ -20,10 +18,9 @@ use Rattle.aol_model.specs.declared.job.Job.{Job}
 use Rattle.aol_model.specs.Reading.{document_in, grammar, limit}
 use Rattle.serde_json.specs.Written.{compact_text}
 use Rattle.serde_json.proofs.OnLiterals.{serde_json_on_literals}
-use Rattle.aol_model.specs.Writing.{document_tree, model_tree, object_of, items_from, task_tree, port_tree, tiler_on_tree}
+use Rattle.aol_model.specs.Writing.{document_tree, object_of, items_from, port_tree}
 use Rattle.aol_model.specs.Rules.{first_misfit}
 use Rattle.aol_model.specs.Trees.{is_tree}
-use Rattle.aol_model.specs.Readable.{IsReadableModel}
 use Rattle.aol_model.specs.Types.{HasNames, HasOutputs}
 use Rattle.std.proofs.Common.{arith}
 

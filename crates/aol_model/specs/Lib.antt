@@ -7,3 +7,4 @@ pub mod Writing
 pub mod Rules
 pub mod Types
 pub mod Walk
+pub mod Names

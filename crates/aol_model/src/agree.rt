@@ -3,6 +3,7 @@
 mod compound;
 mod elementary;
 mod model;
+mod names;
 mod ports;
 mod repeated;
 mod tasks;

@@ -1,11 +1,14 @@
-ghost use Rattle.std.specs.Prelude.{◌≡◌, ◌<◌, None, Some, length, MatchResult, OnOk};
+ghost use Rattle.std.specs.Prelude.{◌≡◌, ◌<◌, None, Some, map, length, MatchResult, OnOk};
 ghost use Rattle.std.specs.List.{AllByRecursion};
-ghost use Rattle.aol_model.specs.Rules.{each, task_checks, checks, first_misfit, ShapesAgree};
+ghost use Rattle.std.specs.Option.{option_copied, ForSome};
+ghost use Rattle.aol_model.specs.Names.{Finds};
+ghost use Rattle.aol_model.specs.Rules.{task_name, main_is_task, each, task_checks, checks, first_misfit, ShapesAgree};
 ghost use Rattle.aol_model.specs.Types.{IsCounted, IsTask, IsModel};
 ghost use Rattle.aol_model.specs.Walk.{Tells};
 
 use crate::agree::compound::test_compound;
 use crate::agree::elementary::test_elementary;
+use crate::agree::names::Index;
 use crate::agree::repeated::test_repeated;
 use crate::agree::tasks::{Earlier, name_of};
 use crate::agree::walk::require;
@@ -31,32 +34,47 @@ fn test_task(at: &Path, earlier: Earlier, task: &Task) -> Result<(), Misfit>
 }
 
 /// Tests each task of the list at the path, in order.
-fn test_tasks(at: &Path, tasks: &Items<Task>) -> Result<(), Misfit>
+#[tactic(auto, using(crate::proofs::NamePlaces::front_known))]
+fn test_tasks<'a>(at: &Path, tasks: &'a Items<Task>, index: Option<&'a Index>) -> Result<(), Misfit>
     requires depth { length at.now < 7 }
     requires types { AllByRecursion IsTask tasks.now }
     requires count { IsCounted tasks.now }
+    requires finds { ForSome (option_copied index) (λ i. Finds (map task_name tasks.now) i.places) }
     ensures { Tells result (each task_checks at.now tasks.now) }
 {
     let list = tasks.as_slice();
     for (k, task) in list.iter().enumerate() {
-        let earlier = Earlier { tasks: &list[..k] };
+        let earlier = Earlier {
+            tasks: &list[..k],
+            index,
+        };
         test_task(&at.to_index(k as u32), earlier, task)?;
     }
     Ok(())
 }
 
+/// Whether the main task is one of the tasks.
+#[tactic(auto, using(crate::proofs::NamePlaces::all_known))]
+fn main_is_task<'a>(model: &'a Model, index: Option<&'a Index>) -> bool
+    requires { ForSome (option_copied index) (λ i. Finds (map task_name model.now.tasks) i.places) }
+    ensures { result ≡ main_is_task model.now }
+{
+    let tasks = model.tasks.as_slice();
+    let all = Earlier { tasks, index };
+    all.has(&model.main)
+}
+
 /// Tests the tasks of a model, and then that its main task is one of them.
-#[tactic(auto, using(crate::proofs::Walks::passed, crate::proofs::Walks::failed))]
+#[tactic(auto, using(crate::proofs::Walks::passed, crate::proofs::Walks::failed, crate::proofs::NamePlaces::made))]
 fn test_model(alloc: Global, model: &Model) -> Result<(), Misfit>
     requires { IsModel model.now }
     ensures { Tells result (checks model.now) }
 {
     let at = Path::top(alloc).to_key(Key::KModel);
-    test_tasks(&at.to_key(Key::KTasks), &model.tasks)?;
-    let tasks = Earlier {
-        tasks: model.tasks.as_slice(),
-    };
-    require(at.to_key(Key::KMain), 23, tasks.has(&model.main))
+    let made = Index::of(alloc, model.tasks.as_slice());
+    let index = made.as_ref();
+    test_tasks(&at.to_key(Key::KTasks), &model.tasks, index)?;
+    require(at.to_key(Key::KMain), 23, main_is_task(model, index))
 }
 
 /// Tests the rules on shapes and names, task by task in the order of the list and then `main`: nothing where all hold,

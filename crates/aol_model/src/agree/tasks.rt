@@ -1,7 +1,9 @@
-ghost use Rattle.std.specs.Prelude.{◌≡◌, ◌<◌, is_some};
-ghost use Rattle.std.specs.Option.{option_copied};
+ghost use Rattle.std.specs.Prelude.{◌≡◌, ◌<◌, map, is_some};
+ghost use Rattle.std.specs.Option.{option_copied, ForSome};
+ghost use Rattle.aol_model.specs.Names.{Leads};
 ghost use Rattle.aol_model.specs.Rules.{task_name, inputs_of, outputs_of, task_named, port_shape, inputs_named, outputs_named, is_earlier_task};
 
+use crate::agree::names::{Index, Named};
 use crate::agree::ports::{are_same, shape_of, shape_of_out};
 use crate::task::Task;
 use aol_expr::Port;
@@ -15,6 +17,14 @@ pub fn name_of(task: &Task) -> &Name
         Task::Elementary(task) => &task.name,
         Task::Compound(task) => &task.name,
         Task::Repeated(task) => &task.name,
+    }
+}
+
+impl Named for Task {
+    ghost name = { task_name };
+
+    fn name(&self) -> &Name {
+        name_of(self)
     }
 }
 
@@ -40,10 +50,19 @@ pub fn output_shape<'a>(task: &'a Task, port: &Name) -> Option<&'a Shape>
     }
 }
 
-/// The tasks in front of the one that is tested.
+/// The task with this name, by a look at each.
+fn task_named<'a>(tasks: &'a [Task], name: &Name) -> Option<&'a Task>
+    ensures { option_copied result ≡ task_named tasks.now name.now }
+{
+    tasks.iter().find(|task| are_same(name_of(task), name))
+}
+
+/// The tasks in front of the one that is tested, and an index over all tasks where memory allowed one.
 #[derive(Clone, Copy)]
 pub struct Earlier<'a> {
     pub tasks: &'a [Task],
+    pub index: Option<&'a Index>,
+    ghost leads: { ForSome (option_copied index) (λ i. Leads (map task_name tasks.now) i.places) },
 }
 
 impl<'a> Earlier<'a> {
@@ -51,7 +70,10 @@ impl<'a> Earlier<'a> {
     pub fn named(&self, name: &Name) -> Option<&'a Task>
         ensures { option_copied result ≡ task_named self.now.tasks.now name.now }
     {
-        self.tasks.iter().find(|task| are_same(name_of(task), name))
+        match self.index {
+            None => task_named(self.tasks, name),
+            Some(index) => index.member(self.tasks, name),
+        }
     }
 
     /// Whether a task has this name.

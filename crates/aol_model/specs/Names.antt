@@ -1,0 +1,29 @@
+-- Where names stand in a list, and an index that knows it.
+use Rattle.std.specs.Prelude.{◌≡◌, ℕ, suc, List, [], ◌∷◌, map, length, nat_lt, Option, Some, None, if◌then◌else◌, String, Vec}
+use Rattle.std.specs.List.{slice_get}
+use Rattle.std.specs.Option.{option_map_or}
+use Rattle.std.specs.BTreeMap.{BTreeMap, get_by_text}
+use Rattle.std.specs.declared.alloc.Global.{Global}
+use Rattle.aol_shape.specs.Lists.{same}
+
+-- the places of a name, in order
+abbrev pub places : List ℕ → List (List ℕ) → List ℕ
+places q [] = []
+places q (n ∷ ns) = if same n q then 0 ∷ map suc (places q ns) else map suc (places q ns)
+
+-- the places that a map holds for a name
+abbrev pub group : List ℕ → BTreeMap (String Global) (Vec ℕ Global) → List ℕ
+group q m = option_map_or (λ g. g.items) (get_by_text m q) []
+
+-- the map holds the places of each name in the list
+abbrev pub Finds : List (List ℕ) → BTreeMap (String Global) (Vec ℕ Global) → Type 0
+Finds names m = (q : List ℕ) → group q m ≡ places q names
+
+-- a place that is one of the first n
+abbrev pub below : ℕ → Option ℕ → Option ℕ
+below n None = None
+below n (Some k) = if nat_lt k n then Some k else None
+
+-- the map leads to the first place of each name in a list that is a front of its own
+abbrev pub Leads : List (List ℕ) → BTreeMap (String Global) (Vec ℕ Global) → Type 0
+Leads front m = (q : List ℕ) → below (length front) (slice_get (group q m) 0) ≡ slice_get (places q front) 0

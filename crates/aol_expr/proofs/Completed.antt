@@ -1,12 +1,10 @@
 -- What reading a spelling answers is the value of what it spells, or the first limit that this passes.
-use Rattle.std.proofs.Common.{◌≡◌, ℕ, ◌+◌, ◌≤◌, ◌<◌, min, ◌⊎◌, inl, inr, List, [], ◌∷◌, Bool, true, false, cond, ◌&&◌, leb, Option, Some, None, Result, Ok, Err, refl, sym, ◌∙◌, ap, subst, arith}
+use Rattle.std.proofs.Common.{◌≡◌, ℕ, ◌+◌, min, ◌⊎◌, inl, inr, List, Bool, true, false, cond, leb, Option, Some, None, Result, Ok, Err, refl, ◌∙◌, ap, subst, arith}
 use Rattle.std.proofs.lemmas.Bool.{leb-true, leb-false, le-leb, lt-leb, and_parts}
 use Rattle.aol_shape.specs.declared.limit.LimitName.{LimitName}
 use Rattle.aol_shape.specs.declared.limit.LimitName.TheVariants as limits
-use Rattle.aol_shape.specs.Tokens.{IsSpaced, first_passing, BeginsAt}
-use Rattle.aol_shape.specs.Grammar.{TextFault, limit, IsTextOf, IsWithinLimits, PassesAt, Reads}
-use Rattle.aol_expr.specs.declared.part.Part.{Part}
-use Rattle.aol_expr.specs.declared.part.Part.TheVariants.{Kept, Forgotten}
+use Rattle.aol_shape.specs.Tokens.{first_passing, BeginsAt}
+use Rattle.aol_shape.specs.Grammar.{limit, IsTextOf, PassesAt, Reads}
 use Rattle.aol_expr.specs.Tree.{Tree, nodes, depth, max_nodes, max_depth}
 use Rattle.aol_expr.specs.Parts.{seen, forgotten}
 use Rattle.aol_expr.specs.Text.{Written, is_well, brackets, tokens_in, tree_written, tree_limit, expr_grammar}

@@ -29,7 +29,7 @@ use Rattle.aol_expr.proofs.Tokens.{noted_token, noted_is, marked, numeral_at, re
 use Rattle.aol_expr.proofs.Spellings.{is_plain, plain_front, gap_plain, name_is, name_read, read_letters}
 use Rattle.aol_expr.proofs.Evidence.{first_passed, consume, consume_plain, noted_none, can_follow, first_operand, begins_more, tail_tokens, separated_tail, one_argument}
 use Rattle.aol_expr.proofs.Operands.{holding, Further, word_further, argument_on, sign_further}
-use Rattle.aol_expr.proofs.Complete.{ReadsAs, Agrees, begins, within, room_for, opens, close_on, closing}
+use Rattle.aol_expr.proofs.Nested.{ReadsAs, Agrees, begins, within, room_for, opens, close_on, closing}
 
 -- ---- the variable of a sum
 

@@ -22,7 +22,7 @@ pub seen_kept : (t : Tree) → is_small t ≡ true → seen t ≡ Kept t
 unfolding seen
 seen_kept t e = ap (λ b. cond b (Kept t) (forgotten (nodes t))) e
 
-seen_gone : (t : Tree) → is_small t ≡ false → seen t ≡ forgotten (nodes t)
+pub seen_gone : (t : Tree) → is_small t ≡ false → seen t ≡ forgotten (nodes t)
 unfolding seen
 seen_gone t e = ap (λ b. cond b (Kept t) (forgotten (nodes t))) e
 
@@ -41,7 +41,7 @@ gone_count t e = ap node_count (seen_gone t e)
 pub small_from : (t : Tree) → nodes t ≤ 10000 → depth t ≤ 100 → is_small t ≡ true
 small_from t h k = and_from (leb (nodes t) max_nodes) (leb (depth t) max_depth) (le-leb (nodes t) max_nodes h) (le-leb (depth t) max_depth k)
 
-small_is : (t : Tree) → is_small t ≡ true → (nodes t ≤ 10000) × (depth t ≤ 100)
+pub small_is : (t : Tree) → is_small t ≡ true → (nodes t ≤ 10000) × (depth t ≤ 100)
 small_is t e =
     let parts = and_parts (leb (nodes t) max_nodes) (leb (depth t) max_depth) e in
     (leb-true (nodes t) max_nodes parts.0, leb-true (depth t) max_depth parts.1)

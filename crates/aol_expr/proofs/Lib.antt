@@ -38,8 +38,11 @@ pub mod Tokens
 pub mod Spellings
 pub mod Evidence
 pub mod Operands
-pub mod Complete
+pub mod Nested
 pub mod Arguments
 pub mod Whole
 pub mod Canonical
 pub mod Again
+pub mod Joined
+pub mod Firsts
+pub mod Complete

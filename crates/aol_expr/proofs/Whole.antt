@@ -19,7 +19,7 @@ use Rattle.aol_expr.proofs.Grouping.{nothing_free, groups}
 use Rattle.aol_expr.proofs.Spellings.{whole_stays}
 use Rattle.aol_expr.proofs.Evidence.{first_passed}
 use Rattle.aol_expr.proofs.Operands.{holding, numeral_leaf, dollar_leaf, name_leaf}
-use Rattle.aol_expr.proofs.Complete.{ReadsAs, infix_read, parens_read, function_read, choice_read}
+use Rattle.aol_expr.proofs.Nested.{ReadsAs, infix_read, parens_read, function_read, choice_read}
 use Rattle.aol_expr.proofs.Arguments.{ReadsIndices, summed_read, no_indices_read, indices_read, no_more_read, one_more_read}
 
 numeral_reads : (t : List ℕ) → is_numeral t ≡ true → ReadsAs (numeral t)

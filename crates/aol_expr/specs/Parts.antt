@@ -2,7 +2,7 @@
 use Rattle.std.specs.Prelude.{ℕ, ◌+◌, min, ◌&&◌, nat_le, List, Option, Some, None, if◌then◌else◌}
 use Rattle.aol_expr.specs.declared.part.Part.{Part}
 use Rattle.aol_expr.specs.declared.part.Part.TheVariants.{Kept, Forgotten}
-use Rattle.aol_expr.specs.Tree.{Tree, num, index, var, read, bin, if_else, sum, Trees, no_trees, tree_and, nodes, depth, max_nodes, max_depth}
+use Rattle.aol_expr.specs.Tree.{Tree, read, Trees, no_trees, tree_and, nodes, depth, max_nodes, max_depth}
 
 -- so many nodes, of which the tree is forgotten
 abbrev pub forgotten : ℕ → Part

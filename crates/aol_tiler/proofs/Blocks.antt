@@ -1,22 +1,12 @@
 -- A tiler in blocks has the addresses of the tiler.
-use Rattle.std.proofs.Common.{◌≡◌, ℕ, zero, suc, ◌+◌, ◌*◌, ℤ, pos, ◌+ℤ◌, ◌*ℤ◌, List, [], ◌∷◌, ◌++◌, length, refl, sym, ◌∙◌, ap, arith}
+use Rattle.std.proofs.Common.{◌≡◌, ℕ, suc, ◌+◌, ◌*◌, ℤ, pos, ◌+ℤ◌, ◌*ℤ◌, List, [], ◌∷◌, ◌++◌, length, refl, sym, ◌∙◌, ap, arith}
 use Rattle.std.proofs.lemmas.Int.{ints}
-use Rattle.std.proofs.Math.IntN.{zero-*ℤ}
+use Rattle.std.proofs.Math.Nat.{mul_comm}
 use Rattle.aol_shape.specs.Shape.{rank}
 use Rattle.aol_shape.specs.Vectors.{plus, times, plus_columns, wrapped_point}
 use Rattle.aol_tiler.specs.Tiler.{integers, scaled}
 use Rattle.aol_tiler.specs.Laws.{inside_block, BlockedAddresses}
-use Rattle.aol_tiler.proofs.Walked.{one-more}
-
-sum-times : (a b : ℕ) (c : ℤ) → pos (a + b) *ℤ c ≡ pos a *ℤ c +ℤ pos b *ℤ c
-sum-times zero b c = let e : 0 + b ≡ b = omega arith in ap (λ k. pos k *ℤ c) e ∙ omega (arith, ints, zero-*ℤ c)
-sum-times (suc a) b c = let e : suc a + b ≡ suc (a + b) = omega arith in ap (λ k. pos k *ℤ c) e ∙ omega (arith, ints, one-more (a + b) c, one-more a c, sum-times a b c)
-
-times-times : (x n : ℕ) (c : ℤ) → pos x *ℤ (pos n *ℤ c) ≡ pos (n * x) *ℤ c
-times-times zero n c = let e : n * 0 ≡ 0 = omega arith in zero-*ℤ (pos n *ℤ c) ∙ sym (zero-*ℤ c) ∙ ap (λ k. pos k *ℤ c) (sym e)
-times-times (suc x) n c =
-    let e : n * suc x ≡ n * x + n = omega arith in
-    omega (arith, ints, one-more x (pos n *ℤ c), times-times x n c, sum-times (n * x) n c) ∙ ap (λ k. pos k *ℤ c) (sym e)
+use Rattle.aol_tiler.proofs.Products.{sum-times, times-times}
 
 plus_swap : (v a b : List ℤ) → plus (plus v a) b ≡ plus (plus v b) a
 plus_swap [] a b = refl
@@ -44,7 +34,10 @@ block_column : (x n y : ℕ) (v c : List ℤ) → plus (plus v (times (pos x) (t
 block_column x n y [] c = refl
 block_column x n y (z ∷ v) [] = refl
 block_column x n y (z ∷ v) (w ∷ c) =
-    let first : (z +ℤ pos x *ℤ (pos n *ℤ w)) +ℤ pos y *ℤ w ≡ z +ℤ pos (n * x + y) *ℤ w = omega (arith, ints, times-times x n w, sum-times (n * x) y w) in
+    let product : pos x *ℤ (pos n *ℤ w) ≡ pos (x * n) *ℤ w = times-times (pos x) (pos n) w in
+    let turned : pos (x * n) *ℤ w ≡ pos (n * x) *ℤ w = ap (λ k. pos k *ℤ w) (mul_comm x n) in
+    let sum : pos (n * x + y) *ℤ w ≡ pos (n * x) *ℤ w +ℤ pos y *ℤ w = sum-times (pos (n * x)) (pos y) w in
+    let first : (z +ℤ pos x *ℤ (pos n *ℤ w)) +ℤ pos y *ℤ w ≡ z +ℤ pos (n * x + y) *ℤ w = omega (arith, ints, product, turned, sum) in
     ap (λ u. u ∷ plus (plus v (times (pos x) (times (pos n) c))) (times (pos y) c)) first ∙ ap (λ u. (z +ℤ pos (n * x + y) *ℤ w) ∷ u) (block_column x n y v c)
 
 block_columns : (v : List ℤ) (cs : List (List ℤ)) (block r b : List ℕ) → length block ≡ length cs → length r ≡ length cs → length b ≡ length cs
@@ -59,11 +52,11 @@ block_columns v (c ∷ cs) (n ∷ block) (x ∷ r) (y ∷ b) e f g =
     ∙ block_columns (plus u (times (pos y) c)) cs block r b (omega (arith, e)) (omega (arith, f)) (omega (arith, g))
     ∙ ap (λ w. plus_columns w cs (integers (inside_block block r b))) (block_column x n y v c)
 
-integers-append : (xs ys : List ℕ) → integers (xs ++ ys) ≡ integers xs ++ integers ys
+pub integers-append : (xs ys : List ℕ) → integers (xs ++ ys) ≡ integers xs ++ integers ys
 integers-append [] ys = refl
 integers-append (x ∷ xs) ys = ap (λ zs. pos x ∷ zs) (integers-append xs ys)
 
-length-integers : (xs : List ℕ) → length (integers xs) ≡ length xs
+pub length-integers : (xs : List ℕ) → length (integers xs) ≡ length xs
 length-integers [] = refl
 length-integers (x ∷ xs) = ap suc (length-integers xs)
 

@@ -1,9 +1,11 @@
 pub mod Addresses
 pub mod Blocks
+pub mod Composites
 pub mod Entries
 pub mod Extends
 pub mod Made
 pub mod Narrowed
+pub mod Products
 pub mod Ranked
 pub mod Residues
 pub mod Rows

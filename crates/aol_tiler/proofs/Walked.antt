@@ -62,7 +62,7 @@ points-cons n shape = let z : 0 ≡ 0 * size shape = omega arith in ap (λ m. ma
 abbrev once : List ℤ → List ℤ → List ℤ
 once z v = plus z (times (pos 1) v)
 
-pub one-more : (x : ℕ) (c : ℤ) → pos (suc x) *ℤ c ≡ pos x *ℤ c +ℤ c
+one-more : (x : ℕ) (c : ℤ) → pos (suc x) *ℤ c ≡ pos x *ℤ c +ℤ c
 one-more x c = suc_ℤ-*ℤ (pos x) c
 
 one-is : (c : ℤ) → pos 1 *ℤ c ≡ c

@@ -9,7 +9,7 @@ mod tiler;
 mod units;
 mod walker;
 
-pub use laws::blocks_are_repetitions;
+pub use laws::{blocks_are_repetitions, compositions_are_points};
 pub use shared::types_are_shared;
 pub use tiler::{IntMat, Tiler, TilerRefused};
 pub use walker::Walker;

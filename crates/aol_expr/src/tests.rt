@@ -1,15 +1,17 @@
 use crate::copy::copy_of;
 use crate::cost::{node_work, work};
 use crate::evaluate::{eval, value_of};
-use crate::expr::expr_of;
+use crate::expr::{ExprRefused, expr_of};
 use crate::inputs::Inputs;
 use crate::names::names_ok;
 use crate::node::ExprNode;
 use crate::op::ExprOp;
 use crate::port::Port;
+use crate::text::read_expr;
 use crate::value::{Kind, Width};
 use crate::vars::Vars;
-use aol_shape::{Items, Name, NoMemory, Shape};
+use crate::writing::write_expr;
+use aol_shape::{Items, LimitName, Name, NoMemory, Shape};
 use std::alloc::Global;
 use std::process::Abort;
 use std::test::Fail;
@@ -128,4 +130,101 @@ fn widths(rt: HostRuntime) {
     ] {
         assert_eq!(rt; Width::Int16.holds(n), want);
     }
+}
+
+/// The canonical text of what a text spells.
+fn rewritten(alloc: Global, text: &str) -> Result<Name, Fail> {
+    if text.len() > 100_000 {
+        return Err("too long".into());
+    }
+    let e = read_expr(alloc, text).ok().ok_or("refused")?;
+    Ok(write_expr(alloc, &e)?)
+}
+
+/// Why a text isn't read.
+fn refusal(alloc: Global, text: &str) -> Option<ExprRefused> {
+    if text.len() > 100_000 {
+        return None;
+    }
+    read_expr(alloc, text).err()
+}
+
+#[test]
+fn rewritten_texts(rt: HostRuntime) -> Result<(), Fail> {
+    let alloc = rt.alloc();
+    for (text, want) in [
+        ("(a{})+((b{}*c{}))", "a{}+b{}*c{}"),
+        ("1--1", "1--1"),
+        ("1-(2+3)", "1-(2+3)"),
+        ("2*(3*4)", "2*(3*4)"),
+        ("(1<2)<3", "(1<2)<3"),
+        (
+            " if ( $07 == -0 , min(1,002) , a { k,2 } ) ",
+            "if($7==0,min(1,2),a{k,2})",
+        ),
+        ("sum(k,1048576,1)", "sum(k,1048576,1)"),
+    ] {
+        assert_eq!(rt; rewritten(alloc, text)?.as_str(), want);
+    }
+    Ok(())
+}
+
+#[test]
+fn refused_texts(rt: HostRuntime) {
+    let alloc = rt.alloc();
+    for (text, want) in [
+        ("1<2<3", ExprRefused::At(3)),
+        ("12345678901234567890", ExprRefused::At(19)),
+        ("min+1", ExprRefused::At(3)),
+        ("sum(min,2,1)", ExprRefused::At(7)),
+        ("- 1", ExprRefused::At(1)),
+        (
+            "9223372036854775808",
+            ExprRefused::Limit(0, LimitName::Number),
+        ),
+        ("sum(k,1048577,1)", ExprRefused::Limit(6, LimitName::Sums)),
+        ("sum(k,0,1)", ExprRefused::Limit(6, LimitName::Sums)),
+        (
+            "sum(a,1024,sum(b,1025,1))",
+            ExprRefused::Limit(17, LimitName::Sums),
+        ),
+    ] {
+        assert_eq!(rt; refusal(alloc, text), Some(want));
+    }
+}
+
+/// A text, so many times with one between each two, in so many parentheses.
+fn repeated(alloc: Global, text: &str, times: u32, pairs: u32) -> Result<String, Fail> {
+    let mut whole = String::new(alloc);
+    for _ in 0..pairs {
+        whole.push('(')?;
+    }
+    whole.push_str(text)?;
+    for _ in 1..times {
+        whole.push('+')?;
+        whole.push_str(text)?;
+    }
+    for _ in 0..pairs {
+        whole.push(')')?;
+    }
+    Ok(whole)
+}
+
+#[test]
+fn long_texts(rt: HostRuntime) -> Result<(), Fail> {
+    let alloc = rt.alloc();
+    let depth = Some(ExprRefused::Limit(0, LimitName::Depth));
+    let nodes = Some(ExprRefused::Limit(0, LimitName::Expression));
+    for (times, pairs, want) in [
+        (100, 0, None),
+        (101, 0, depth),
+        (5000, 0, depth),
+        (5001, 0, nodes),
+        (1, 100, None),
+        (1, 101, Some(ExprRefused::At(100))),
+    ] {
+        let text = repeated(alloc, "1", times, pairs)?;
+        assert_eq!(rt; refusal(alloc, text.as_str()), want);
+    }
+    Ok(())
 }

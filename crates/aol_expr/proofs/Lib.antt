@@ -44,5 +44,3 @@ pub mod Whole
 pub mod Canonical
 pub mod Again
 pub mod Joined
-pub mod Firsts
-pub mod Complete

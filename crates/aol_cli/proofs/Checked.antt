@@ -19,20 +19,7 @@ use Rattle.aol_flat.specs.Tasks.{main_task, main_inputs}
 use Rattle.aol_flat.specs.Inputs.{numbers_named, IsGivenFor, InputsFit}
 use Rattle.aol_flat.proofs.Different.{Hold, hold-parts, main_checked}
 use Rattle.aol_flat.proofs.Names.{both-true}
-use Rattle.aol_cli.specs.Outputs.{IsReadable}
 use Rattle.aol_cli.specs.Inputs.{Unfit, is_given, first_unfit, first_unknown, first_wrong_input}
-
-outputs-readable : (e : Elementary) (at : List PlaceStep) (k : ℕ) (earlier os : List OutPort) → Hold (each_from (output_checks e) at k earlier os) → AllByRecursion (IsReadable e.ins) os
-outputs-readable e at k earlier [] h = tt
-outputs-readable e at k earlier (o ∷ os) h =
-    let parts = hold-parts (output_checks e (to_index at k) earlier o) (each_from (output_checks e) at (k + 1) (earlier ++ o ∷ []) os) h in
-    ((both-true (has_names e o) true (both-true (is_new_port _ o.port) _ parts.0).1).0, outputs-readable e at (k + 1) (earlier ++ o ∷ []) os parts.1)
-
--- the expressions of an elementary main task read only what is there
-pub main_readable : (m : Model) (e : Elementary) → ShapesAgree m → main_task m ≡ Some (tasks.Elementary e) → AllByRecursion (IsReadable e.ins) e.outs
-main_readable m e agree main =
-    let checked = main_checked m e agree main in
-    outputs-readable e (to_key checked.0 KOut) 0 [] e.outs (hold-parts (each (port_checks []) (to_key checked.0 KIn) e.ins) (each (output_checks e) (to_key checked.0 KOut) e.outs) checked.1).1
 
 ports-fit : (inputs : List InputArray) (ports : List Port) → first_unfit inputs ports ≡ None → AllByRecursion (IsGivenFor inputs) ports
 ports-fit inputs [] h = tt

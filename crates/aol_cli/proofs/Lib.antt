@@ -5,3 +5,4 @@ pub mod SameTexts
 pub mod RunReplies
 pub mod Checked
 pub mod Replies
+pub mod OneReply

@@ -10,7 +10,6 @@ use Rattle.aol_model.specs.Reading.{Fault, grammar, limit}
 use Rattle.aol_cli.specs.Reply.{ReplyOf, reply, line}
 use Rattle.aol_cli.specs.Answer.{TreeAnswers, wrong_form, text_limit}
 use Rattle.aol_cli.specs.declared.words.Command.{Command}
-use Rattle.aol_cli.specs.declared.words.Command.TheVariants.{Run}
 
 -- what holds of a status and a text holds of a reply that has them
 pub made_of : (P : ReplyOf → Type 0) (r : Result Reply NoMemory) (code : ℕ) (text : List ℕ) → IfOk r (λ x. x.code ≡ code) → IfOk r (λ x. string_bytes x.text ≡ text)
@@ -22,10 +21,6 @@ made_of P (Err x) code text e f p = e
 pub carried : (P Q : ReplyOf → Type 0) (r : Result Reply NoMemory) → ((x : ReplyOf) → P x → Q x) → IfOk r (λ x. P (reply x.code (string_bytes x.text))) → IfOk r (λ x. Q (reply x.code (string_bytes x.text)))
 carried P Q (Ok x) step p = step (reply x.code (string_bytes x.text)) p
 carried P Q (Err x) step p = p
-
--- the one command
-pub is_run : (c : Command) → (n : ℕ) × (c ≡ Run n)
-is_run (Run n) = (n, refl)
 
 -- a place that isn't in the grammar is told
 pub wrong_form_told : (c : Command) (read : Result Document Fault) (r : Result Reply NoMemory) (place : PlaceOf) → IfOk r (λ x. x.code ≡ 7) → IfOk r (λ x. string_bytes x.text ≡ line (codes "grammar" ∷ place_text place ∷ []))

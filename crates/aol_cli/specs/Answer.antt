@@ -3,6 +3,7 @@ use Rattle.std.specs.Prelude.{◌≡◌, ℕ, ◌+◌, ◌*◌, ◌≤◌, List,
 use Rattle.std.specs.Str.{IsUtf8}
 use Rattle.serde_json.specs.Data.{Data}
 use Rattle.serde_json.specs.Read.{read as read_text}
+use Rattle.serde_json.specs.Written.{compact_text}
 use Rattle.aol_shape.specs.declared.limit.LimitName.{LimitName}
 use Rattle.aol_shape.specs.declared.limit.LimitName.TheVariants.{Walk, Work}
 use Rattle.aol_shape.specs.Shape.{size}
@@ -11,6 +12,7 @@ use Rattle.aol_expr.specs.Tree.{work}
 use Rattle.aol_model.specs.declared.document.Model.{Model}
 use Rattle.aol_model.specs.declared.document.Document.{Document}
 use Rattle.aol_model.specs.declared.document.Misfit.{Misfit}
+use Rattle.aol_model.specs.declared.job.Job.{Job}
 use Rattle.aol_model.specs.declared.task.Elementary.{Elementary}
 use Rattle.aol_model.specs.declared.task.OutPort.{OutPort}
 use Rattle.aol_model.specs.declared.task.Task.{Task}
@@ -18,9 +20,10 @@ use Rattle.aol_model.specs.declared.task.Task.TheVariants as tasks
 use Rattle.aol_model.specs.Places.{PlaceOf, place_text, limit_text}
 use Rattle.aol_model.specs.Reading.{Fault, grammar, limit, document_in}
 use Rattle.aol_model.specs.Rules.{first_misfit}
+use Rattle.aol_model.specs.Writing.{document_tree}
 use Rattle.aol_flat.specs.Tasks.{main_task}
 use Rattle.aol_cli.specs.declared.words.Command.{Command}
-use Rattle.aol_cli.specs.declared.words.Command.TheVariants.{Run}
+use Rattle.aol_cli.specs.declared.words.Command.TheVariants.{Print, Run}
 use Rattle.aol_cli.specs.Reply.{ReplyOf, reply, line}
 use Rattle.aol_cli.specs.Inputs.{first_wrong_input}
 use Rattle.aol_cli.specs.Run.{IsRunReply}
@@ -52,10 +55,15 @@ limit_of e = if nat_le (walk_of e) max_walk then (if nat_le (work_of e) max_work
 
 -- ---- what is built
 
--- the main task computes, and a run has no transformations and no allocation
+-- a run has no transformations and no allocation
+abbrev pub IsPlain : Command → Job → Type 0
+IsPlain Print j = Unit {0}
+IsPlain (Run n) j = (j.transform ≡ []) × (j.allocate ≡ [])
+
+-- the main task computes, and the command is built for the job
 pub record IsBuilt (c : Command) (d : Document) (e : Elementary) : Type 0 where
   pub main : main_task d.model ≡ Some (tasks.Elementary e)
-  pub plain : (n : ℕ) → c ≡ Run n → (d.job.transform ≡ []) × (d.job.allocate ≡ [])
+  pub plain : IsPlain c d.job
 
 -- it is not of the built form
 abbrev pub IsUnbuilt : Command → Document → Type 0
@@ -70,6 +78,7 @@ IsNoElementary t = (e : Elementary) → ¬ (t ≡ Some (tasks.Elementary e))
 -- to a document of the built form
 pub data BuiltAnswers (c : Command) (d : Document) (e : Elementary) : ReplyOf → Type 0 where
   limited : (name : LimitName) → limit_of e ≡ Some name → BuiltAnswers c d e (reply 9 (line (codes "limit" ∷ codes "/" ∷ limit_text name ∷ [])))
+  print : limit_of e ≡ None → c ≡ Print → BuiltAnswers c d e (reply 0 (line (compact_text (document_tree d.model d.job) ∷ [])))
   wrong_input : (n : ℕ) → limit_of e ≡ None → c ≡ Run n → (name cause : List ℕ) → first_wrong_input d.model d.job.input ≡ Some (name, cause)
       → BuiltAnswers c d e (reply 13 (line (codes "input" ∷ name ∷ cause ∷ [])))
   run : (n : ℕ) → limit_of e ≡ None → c ≡ Run n → first_wrong_input d.model d.job.input ≡ None → (r : ReplyOf) → IsRunReply d.model d.job.input r → BuiltAnswers c d e r

@@ -7,3 +7,4 @@ pub mod Outputs
 pub mod Faults
 pub mod Answer
 pub mod Answered
+pub mod OneReply

@@ -7,7 +7,10 @@ use Rattle.aol_expr.specs.declared.port.Port.{Port}
 use Rattle.aol_expr.specs.declared.value.Site.{Site}
 use Rattle.aol_expr.specs.declared.value.Val.{Val}
 use Rattle.aol_expr.specs.declared.value.Val.TheVariants.{Num, Bad}
-use Rattle.aol_expr.specs.Names.{names_ok}
+use Rattle.aol_expr.specs.declared.resolution.Resolved.{Resolved}
+use Rattle.aol_expr.specs.Computed.{computed as computed_by}
+use Rattle.aol_expr.specs.Meaning.{value}
+use Rattle.aol_expr.specs.Tree.{Tree}
 use Rattle.aol_model.specs.declared.task.Elementary.{Elementary}
 use Rattle.aol_model.specs.declared.task.OutPort.{OutPort}
 use Rattle.aol_model.specs.declared.task.Task.{Task}
@@ -41,9 +44,9 @@ all_values task e nums = flat_map (values_of task e nums) (enumerate_from 0 e.ou
 abbrev pub all_lines : ℕ → Elementary → List ℤ → List ℕ
 all_lines task e nums = flat_map (line_of task e nums) (enumerate_from 0 e.outs)
 
--- an output's expression reads only what is there
-abbrev pub IsReadable : List Port → OutPort → Type 0
-IsReadable ins out = names_ok ins (length out.port.shape) out.expr ≡ true
+-- with these input ports the expression's value is what the resolved one computes
+abbrev pub IsResolved : List Port → Tree → Resolved → Type 0
+IsResolved ins expr r = (nums : List ℤ) (at : List ℕ) → computed_by r nums at ≡ value (record { ins = ins; nums = nums; at = at }) [] expr
 
 -- a site at output port k, which is `out`, of the elementary task with this number
 pub record IsSiteAt (task k : ℕ) (out : OutPort) (s : Site) : Type 0 where

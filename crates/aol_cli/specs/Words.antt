@@ -1,7 +1,7 @@
 -- The command that the words of a call name.
 use Rattle.std.specs.Prelude.{◌≡◌, ℕ, List, [], ◌∷◌, codes, decimal}
 use Rattle.aol_cli.specs.declared.words.Command.{Command}
-use Rattle.aol_cli.specs.declared.words.Command.TheVariants.{Run}
+use Rattle.aol_cli.specs.declared.words.Command.TheVariants.{Print, Run}
 
 -- a number of workers for which a run is built
 abbrev pub IsWorkers : ℕ → Type 0
@@ -9,6 +9,7 @@ IsWorkers n = n ≡ 1
 
 -- the words are those of the command
 abbrev pub Means : List (List ℕ) → Command → Type 0
+Means words Print = words ≡ codes "print" ∷ []
 Means words (Run n) = (words ≡ codes "run" ∷ decimal n ∷ []) × IsWorkers n
 
 -- the words are those of no command

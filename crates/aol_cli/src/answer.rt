@@ -1,27 +1,30 @@
 //! The reply to a command, by the bytes of a document.
 
-ghost use Rattle.std.specs.Prelude.{◌≡◌, ◌∷◌, [], Some, codes, decimal, string_bytes, IfOk, IfSome, IfNone};
+ghost use Rattle.std.specs.Prelude.{◌≡◌, ◌↔◌, ◌∷◌, [], Some, true, codes, decimal, string_bytes, IsTrue, IfOk, IfSome, IfNone};
 ghost use Rattle.aol_shape.specs.Lists.{or_else};
 ghost use Rattle.serde_json.specs.View.{view};
 ghost use Rattle.aol_model.specs.declared.task.Task.TheVariants.{Elementary as ElementaryTask};
 ghost use Rattle.aol_model.specs.Reading.{document_in};
 ghost use Rattle.aol_model.specs.Rules.{ShapesAgree, task_named};
 ghost use Rattle.aol_model.specs.Places.{place_text, limit_text};
+ghost use Rattle.aol_model.specs.Readable.{IsReadable};
+ghost use Rattle.aol_model.specs.Trees.{is_tree};
 ghost use Rattle.aol_model.specs.Types.{IsDocument};
 ghost use Rattle.aol_cli.specs.Reply.{reply, line};
 ghost use Rattle.aol_cli.specs.Inputs.{first_unfit, first_unknown};
 ghost use Rattle.aol_cli.specs.Lent.{lent_pair};
-ghost use Rattle.aol_cli.specs.Answer.{Answers, TreeAnswers, DocumentAnswers, BuiltAnswers, IsBuilt, IsUnbuilt, IsNoElementary};
+ghost use Rattle.aol_cli.specs.Answer.{Answers, TreeAnswers, DocumentAnswers, BuiltAnswers, IsPlain, IsBuilt, IsUnbuilt, IsNoElementary};
 
 use crate::inputs::{first_unfit, first_unknown};
 use crate::limits::limit_of;
+use crate::print::print_reply;
 use crate::reply::Reply;
 use crate::run::run_reply;
 use crate::text::{is_same, push_number, push_text};
 use crate::words::Command;
 use aol_expr::Port;
 use aol_model::{
-    DocRefused, Document, Elementary, InputArray, Place, Task, document_of, limit_text,
+    DocRefused, Document, Elementary, InputArray, Job, Place, Task, document_of, limit_text,
     shapes_agree,
 };
 use aol_shape::{LimitName, NoMemory};
@@ -52,6 +55,7 @@ fn fixed(alloc: Global, code: u8, text: &str) -> Result<Reply, NoMemory>
 
 /// The reply to a command for a JSON tree.
 fn tree_reply(alloc: Global, command: Command, tree: &Value) -> Result<Reply, NoMemory>
+    requires { is_tree (view tree.now) ≡ true }
     ensures { IfOk result (λ r. TreeAnswers command (document_in (view tree.now)) (reply r.code (string_bytes r.text))) }
 {
     match document_of(alloc, tree) {
@@ -102,6 +106,7 @@ fn misfit_reply(alloc: Global, place: &Place, rule: u32) -> Result<Reply, NoMemo
 /// The reply to a command for a document.
 fn document_reply(alloc: Global, command: Command, document: &Document) -> Result<Reply, NoMemory>
     requires types { IsDocument document.now.model document.now.job }
+    requires readable { IsReadable document.now.model document.now.job }
     ensures { IfOk result (λ r. DocumentAnswers command document.now (reply r.code (string_bytes r.text))) }
 {
     if let Err(misfit) = shapes_agree(alloc, &document.model) {
@@ -113,13 +118,22 @@ fn document_reply(alloc: Global, command: Command, document: &Document) -> Resul
     }
 }
 
+/// Whether the command is built for the steps and entries of a job: for a run there are none.
+fn is_plain(command: Command, job: &Job) -> bool
+    ensures { IsTrue result ↔ IsPlain command job.now }
+{
+    match command {
+        Command::Print => true,
+        Command::Run(_) => job.transform.is_empty() && job.allocate.is_empty(),
+    }
+}
+
 /// The main task, where it is elementary and the command is built for the document.
 fn built_task(command: Command, document: &Document) -> Option<&Elementary>
     ensures built { IfSome result (λ e. IsBuilt command document.now e.now) }
     ensures unbuilt { IfNone result (IsUnbuilt command document.now) }
 {
-    let Command::Run(_) = command;
-    if !(document.job.transform.is_empty() && document.job.allocate.is_empty()) {
+    if !is_plain(command, &document.job) {
         return None;
     }
     main_elementary(
@@ -163,6 +177,7 @@ fn built_reply(
     task: &Elementary,
 ) -> Result<Reply, NoMemory>
     requires types { IsDocument document.now.model document.now.job }
+    requires readable { IsReadable document.now.model document.now.job }
     requires agree { ShapesAgree document.now.model }
     requires built { IsBuilt command document.now task.now }
     ensures { IfOk result (λ r. BuiltAnswers command document.now task.now (reply r.code (string_bytes r.text))) }
@@ -170,11 +185,15 @@ fn built_reply(
     if let Some(name) = limit_of(task) {
         return tree_limit_reply(alloc, name);
     }
-    let Command::Run(_) = command;
-    let inputs = document.job.input.as_slice();
-    match wrong_input(inputs, task.ins.as_slice()) {
-        Some((name, cause)) => input_reply(alloc, name, cause),
-        None => run_reply(alloc, &document.model, task, inputs),
+    match command {
+        Command::Print => print_reply(alloc, document),
+        Command::Run(_) => {
+            let inputs = document.job.input.as_slice();
+            match wrong_input(inputs, task.ins.as_slice()) {
+                Some((name, cause)) => input_reply(alloc, name, cause),
+                None => run_reply(alloc, &document.model, task, inputs),
+            }
+        }
     }
 }
 

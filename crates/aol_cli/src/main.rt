@@ -7,8 +7,10 @@
 mod answer;
 mod faults;
 mod inputs;
+mod laws;
 mod limits;
 mod outputs;
+mod print;
 mod program;
 mod reply;
 mod run;

@@ -1,12 +1,11 @@
 //! A run of a model whose main task is elementary.
 
 ghost use Rattle.std.specs.Prelude.{◌≡◌, ◌<◌, ◌^◌, Some, length, string_bytes, IfOk};
-ghost use Rattle.std.specs.List.{AllByRecursion};
 ghost use Rattle.aol_model.specs.declared.task.Task.TheVariants.{Elementary as ElementaryTask};
 ghost use Rattle.aol_model.specs.Rules.{ShapesAgree};
 ghost use Rattle.aol_flat.specs.Tasks.{main_task, elementary_number};
 ghost use Rattle.aol_flat.specs.Inputs.{InputsFit, numbers_named, numbers_for};
-ghost use Rattle.aol_cli.specs.Outputs.{IsReadable, elementary_position};
+ghost use Rattle.aol_cli.specs.Outputs.{elementary_position};
 ghost use Rattle.aol_cli.specs.Reply.{reply};
 ghost use Rattle.aol_cli.specs.Run.{IsRunReply};
 
@@ -69,7 +68,6 @@ pub fn run_reply(
     requires main { main_task model.now ≡ Some (ElementaryTask task.now) }
     requires agree { ShapesAgree model.now }
     requires fit { InputsFit model.now inputs.now }
-    requires readable { AllByRecursion (IsReadable task.now.ins) task.now.outs }
     requires outs { length task.now.outs < 2 ^ 32 }
     requires tasks { length model.now.tasks < 2 ^ 32 }
     ensures { IfOk result (λ r. IsRunReply model.now inputs.now (reply r.code (string_bytes r.text))) }

@@ -3,155 +3,334 @@ use crate::text::push_text;
 use aol_io::{MemSink, MemSource};
 use aol_shape::Items;
 use std::alloc::Global;
+use std::str::from_utf8;
 use std::test::Fail;
 
-const SUM: &str = "a{$0,$1}+b{$0,$1}";
+/// A document of one task, which adds two arrays.
+const ADD: &str =
+    r#"{"allocate":[],"input":{"a":[1,2,3,4],"b":[10,20,30,40]},"model":{"main":"Add","tasks":[{"in":[{"name":"a","shape":"{2,2}"},{"name":"b","shape":"{2,2}"}],"kind":"elementary","name":"Add","out":[{"expr":"a{$0,$1}+b{$0,$1}","name":"y","shape":"{2,2}"}]}]},"transform":[],"version":2}"#;
 
-/// A document of the one task `Add`, with this main task, these members of its inputs, and this expression.
-fn document(alloc: Global, main: &str, inputs: &str, expr: &str) -> Result<String, Fail> {
-    let mut text = String::from_str(alloc, "{\"allocate\":[],\"transform\":[],\"input\":{")?;
-    push_text(&mut text, inputs).map_err(|_| "no memory")?;
-    push_text(&mut text, "},\"model\":{\"main\":\"").map_err(|_| "no memory")?;
-    push_text(&mut text, main).map_err(|_| "no memory")?;
-    push_text(
-        &mut text,
-        "\",\"tasks\":[{\"kind\":\"elementary\",\"name\":\"Add\",\"in\":[{\"name\":\"a\",\"shape\":\"{2,2}\"},{\"name\":\"b\",\"shape\":\"{2,2}\"}],\"out\":[{\"name\":\"y\",\"shape\":\"{2,2}\",\"expr\":\"",
-    )
-    .map_err(|_| "no memory")?;
-    push_text(&mut text, expr).map_err(|_| "no memory")?;
-    push_text(&mut text, "\"}]}]}}").map_err(|_| "no memory")?;
-    Ok(text)
-}
+/// A document of one task, which squares a number of 16 bits.
+const SQUARE: &str =
+    r#"{"allocate":[],"input":{"a":[181]},"model":{"main":"Sq16","tasks":[{"in":[{"name":"a","shape":"{}","type":"int16"}],"kind":"elementary","name":"Sq16","out":[{"expr":"a{}*a{}","name":"s","shape":"{}","type":"int16"}]}]},"transform":[],"version":2}"#;
 
-/// The status of a call, and its sink: it has this room and takes 5 bytes at a time.
+/// A document of one task, which needs no inputs and much work.
+const ONES: &str =
+    r#"{"allocate":[],"input":{},"model":{"main":"Ones","tasks":[{"in":[],"kind":"elementary","name":"Ones","out":[{"expr":"sum(k,1048576,1)","name":"y","shape":"{4095}"}]}]},"transform":[],"version":2}"#;
+
+/// The status of a call with these words, which have blanks between them, and its sink, which takes 5 bytes at a time.
 fn called(
     alloc: Global,
-    words: &[&str],
+    words: &str,
     bytes: &[u8],
     failing_read: u32,
     failing_write: u32,
 ) -> Result<(u8, MemSink), Fail> {
     let mut given = Vec::new(alloc);
-    for word in words {
-        given.push(String::from_str(alloc, *word)?)?;
+    for word in words.split_whitespace() {
+        given.push(String::from_str(alloc, word)?)?;
     }
     let bytes = Items::from_slice(alloc, bytes)?;
     let failing = Items::from_slice(alloc, &[failing_read])?;
     let mut source = MemSource::new(bytes, 4096, failing).ok_or("no source")?;
-    let room = Items::from_vec(vec![in alloc; 0u8; 64]?);
+    let room = Items::from_vec(vec![in alloc; 0u8; 8192]?);
     let failing = Items::from_slice(alloc, &[failing_write])?;
     let mut sink = MemSink::new(room, 5, failing).ok_or("no sink")?;
     let status = aol(alloc, given.as_slice(), &mut source, &mut sink).code;
     Ok((status, sink))
 }
 
+/// The document with this part of it changed to another.
+fn changed(alloc: Global, document: &str, old: &str, new: &str) -> Result<String, Fail> {
+    Ok(document.replacen(alloc, old, new, 1)?)
+}
+
+/// A document of one task with so many scalar inputs, and one output.
+fn with_inputs(alloc: Global, count: u32) -> Result<String, Fail> {
+    let mut ports = String::new(alloc);
+    for k in 0..count {
+        let comma = if k == 0 { "" } else { "," };
+        let port = format!(in alloc; "{comma}{{\"name\":\"a{k}\",\"shape\":\"{{}}\"}}")?;
+        push_text(&mut ports, port.as_str()).map_err(|_| "no memory")?;
+    }
+    let document = changed(alloc, ONES, r#""in":["#, r#""in":[PORTS"#)?;
+    changed(alloc, document.as_str(), "PORTS", ports.as_str())
+}
+
+#[test]
+fn documents_are_printed(rt: HostRuntime) -> Result<(), Fail> {
+    let alloc = rt.alloc();
+    // the document, a part of it, and what stands in its place
+    let cases = [
+        (ADD, "", ""),
+        (SQUARE, "", ""),
+        (ONES, "", ""),
+        (ADD, r#","b":[10,20,30,40]"#, ""),
+        (ADD, "[10,20,30,40]", "[1,2,3]"),
+        (ADD, "40]", r#"40],"c":[-7]"#),
+        (
+            ADD,
+            r#""transform":[]"#,
+            r#""transform":[{"block":"{2}","kind":"tile","outer":"{2}","task":"Add"}]"#,
+        ),
+        (ADD, "+b{$0,$1}", "-(a{1,0}-b{$0,$1})"),
+    ];
+    for (document, old, new) in cases {
+        let text = changed(alloc, document, old, new)?;
+        let (code, sink) = called(alloc, "print", text.as_bytes(), 0, 0)?;
+        assert_eq!(rt;
+            from_utf8(sink.bytes())?.strip_suffix("\n"),
+            Some(text.as_str())
+        );
+        assert_eq!(rt; code, 0);
+    }
+    Ok(())
+}
+
 #[test]
 fn documents_are_answered(rt: HostRuntime) -> Result<(), Fail> {
-    // the main task, the array `a` with what follows it, the expression, the status and what is written
-    let cases = [
-        (
-            "Add",
-            "\"a\":[1,2,3,4],\"b\":[10,20,30,40]",
-            SUM,
-            0,
-            "y {2,2} 11 22 33 44\n",
-        ),
-        (
-            "Sub",
-            "\"a\":[1,2,3,4],\"b\":[10,20,30,40]",
-            SUM,
-            8,
-            "shape $.model.main rule 23\n",
-        ),
-        ("Add", "\"a\":[1,2,3,4]", SUM, 13, "input b absent\n"),
-        (
-            "Add",
-            "\"a\":[1,2,3,4],\"b\":[10,20,30]",
-            SUM,
-            13,
-            "input b length\n",
-        ),
-        (
-            "Add",
-            "\"a\":[1,2,3,4],\"b\":[10,20,30,40],\"c\":[1]",
-            SUM,
-            13,
-            "input c unknown\n",
-        ),
-        (
-            "Add",
-            "\"a\":[9223372036854775807,2,3,4],\"b\":[1,20,30,40]",
-            SUM,
-            16,
-            "fault overflow Add y {0,0}\n",
-        ),
-        (
-            "Add",
-            "\"a\":[1,2,3,4],\"b\":[10,20,30,40]",
-            "a{2,$1}+b{$0,$1}",
-            16,
-            "fault index Add y {0,0}\n",
-        ),
-        (
-            "Add",
-            "\"a\":[1,2,3,4],\"b\":[10,20,0,40]",
-            "a{$0,$1}/b{$0,$1}",
-            16,
-            "fault divide Add y {1,0}\n",
-        ),
-    ];
     let alloc = rt.alloc();
-    for (main, inputs, expr, status, written) in cases {
-        let text = document(alloc, main, inputs, expr)?;
-        let (code, sink) = called(alloc, &["run", "1"], text.as_bytes(), 0, 0)?;
-        assert_eq!(rt; sink.bytes(), written.as_bytes());
+    // the document, a part of it, and what stands in its place; the words; the status and the line
+    let cases = [
+        (ADD, r#","version":2"#, "", "print", 0, ADD),
+        (
+            ADD,
+            r#""name":"Add","#,
+            r#""name":"\u0041dd","#,
+            "print",
+            0,
+            ADD,
+        ),
+        (ADD, r#""{2,2}""#, r#""{ 02,2 }""#, "print", 0, ADD),
+        (ADD, "a{$0,$1}+", "(a{ $0,$1 }) + ", "print", 0, ADD),
+        (
+            SQUARE,
+            r#""s","shape":"{}","type":"int16""#,
+            r#""s","shape":"{}","type":"int64""#,
+            "run 1",
+            0,
+            "s {} 32761",
+        ),
+        (ADD, "", "", "run 1", 0, "y {2,2} 11 22 33 44"),
+        (
+            ADD,
+            r#""{2,2}"}]}]"#,
+            r#""{2,"}],"note":0}]"#,
+            "print",
+            7,
+            "grammar $.model.tasks[0]",
+        ),
+        (
+            ADD,
+            r#""{2,2}"}]}]"#,
+            r#""{2,"}]}]"#,
+            "print",
+            7,
+            "grammar $.model.tasks[0].out[0].shape@3",
+        ),
+        (
+            ADD,
+            r#""{2,2}"}]}]"#,
+            r#""{2,4194305}"}]}]"#,
+            "print",
+            9,
+            "limit $.model.tasks[0].out[0].shape@3 entry",
+        ),
+        (
+            ADD,
+            r#""version":2"#,
+            r#""version":3"#,
+            "print",
+            7,
+            "grammar $.version",
+        ),
+        (
+            ADD,
+            r#""version":2"#,
+            r#""note":2"#,
+            "print",
+            7,
+            "grammar $",
+        ),
+        (
+            ADD,
+            r#""{2,2}"},{"#,
+            r#""{2,2}","type":"int8"},{"#,
+            "print",
+            7,
+            "grammar $.model.tasks[0].in[0].type",
+        ),
+        (
+            ADD,
+            "[1,2,3,4]",
+            "[1,-0,3,4]",
+            "run 1",
+            7,
+            "grammar $.input[0][1]",
+        ),
+        (
+            ADD,
+            "a{$0,$1}+b{$0,$1}",
+            "c{0,0}",
+            "print",
+            8,
+            "shape $.model.tasks[0].out[0].expr rule 3",
+        ),
+        (
+            ADD,
+            r#""main":"Add""#,
+            r#""main":"Sub""#,
+            "run 1",
+            8,
+            "shape $.model.main rule 23",
+        ),
+        (
+            ADD,
+            r#"}]},"transform"#,
+            r#"},{"in":[{"name":"a","shape":"{2,2}"},{"name":"b","shape":"{2,2}"}],"kind":"compound","links":[{"from":"a","to":"p.a"},{"from":"b","to":"p.b"},{"from":"p.y","to":"y"}],"name":"Up","out":[{"name":"y","shape":"{2,2}"}],"parts":[{"name":"p","task":"Add"}],"reshapes":[]}],"main":"Up"},"transform"#,
+            "run 1",
+            17,
+            "unbuilt",
+        ),
+        (
+            ADD,
+            r#"}]},"transform"#,
+            r#"},{"in":[{"name":"a","shape":"{2,2}"},{"name":"b","shape":"{2,2}"}],"kind":"compound","links":[{"from":"a","to":"p.a"},{"from":"b","to":"p.b"},{"from":"p.y","to":"y"}],"name":"Up","out":[{"name":"y","shape":"{2,2}"}],"parts":[{"name":"p","task":"Add"}],"reshapes":[]}],"main":"Up"},"transform"#,
+            "print",
+            17,
+            "unbuilt",
+        ),
+        (
+            ADD,
+            r#""transform":[]"#,
+            r#""transform":[{"block":"{2}","kind":"tile","outer":"{2}","task":"Add"}]"#,
+            "run 1",
+            17,
+            "unbuilt",
+        ),
+        (ONES, "4095", "4096", "print", 9, "limit / work"),
+        (
+            ONES,
+            r#"{4095}"}]}]},"transform":[]"#,
+            r#"{4096}"}]}]},"transform":[{"block":"{2}","kind":"tile","outer":"{2}","task":"Ones"}]"#,
+            "run 1",
+            17,
+            "unbuilt",
+        ),
+        (
+            ADD,
+            r#","b":[10,20,30,40]"#,
+            "",
+            "run 1",
+            13,
+            "input b absent",
+        ),
+        (
+            ADD,
+            "[10,20,30,40]",
+            "[1,2,3]",
+            "run 1",
+            13,
+            "input b length",
+        ),
+        (ADD, "40]", r#"40],"c":[]"#, "run 1", 13, "input c unknown"),
+        (
+            ADD,
+            r#"[1,2,3,4],"b":[10"#,
+            r#"[9223372036854775807,2,3,4],"b":[1"#,
+            "run 1",
+            16,
+            "fault overflow Add y {0,0}",
+        ),
+        (ADD, "a{$0,", "a{2,", "run 1", 16, "fault index Add y {0,0}"),
+        (
+            ADD,
+            "+b{$0,$1}",
+            "/(b{$0,$1}-30)",
+            "run 1",
+            16,
+            "fault divide Add y {1,0}",
+        ),
+        (SQUARE, "", "", "run 1", 0, "s {} 32761"),
+        (SQUARE, "181", "182", "run 1", 16, "fault range Sq16 s {}"),
+        (SQUARE, "181", "32768", "run 1", 16, "fault range Sq16 s {}"),
+    ];
+    for (document, old, new, words, status, written) in cases {
+        let text = changed(alloc, document, old, new)?;
+        let (code, sink) = called(alloc, words, text.as_bytes(), 0, 0)?;
+        assert_eq!(rt; from_utf8(sink.bytes())?.strip_suffix("\n"), Some(written));
         assert_eq!(rt; code, status);
     }
     Ok(())
 }
 
 #[test]
+fn fronts_and_deep_texts_are_no_documents(rt: HostRuntime) -> Result<(), Fail> {
+    let alloc = rt.alloc();
+    for size in 0..41 {
+        let (front, _) = ADD.as_bytes().split_at_checked(size).ok_or("too short")?;
+        let (code, sink) = called(alloc, "print", front, 0, 0)?;
+        assert_eq!(rt; from_utf8(sink.bytes())?, "json\n");
+        assert_eq!(rt; code, 6);
+    }
+    for (depth, status, line) in [(128usize, 6, "json\n"), (127, 7, "grammar $\n")] {
+        let mut bytes = vec![in alloc; b'['; depth]?;
+        let closing = vec![in alloc; b']'; depth]?;
+        bytes.extend_from_slice(closing.as_slice())?;
+        let (code, sink) = called(alloc, "print", bytes.as_slice(), 0, 0)?;
+        assert_eq!(rt; from_utf8(sink.bytes())?, line);
+        assert_eq!(rt; code, status);
+    }
+    Ok(())
+}
+
+#[test]
+fn a_task_has_at_most_64_ports(rt: HostRuntime) -> Result<(), Fail> {
+    let alloc = rt.alloc();
+    let most = with_inputs(alloc, 63)?;
+    let (code, _) = called(alloc, "print", most.as_bytes(), 0, 0)?;
+    assert_eq!(rt; code, 0);
+    let more = with_inputs(alloc, 64)?;
+    let (code, sink) = called(alloc, "print", more.as_bytes(), 0, 0)?;
+    assert_eq!(rt;
+        from_utf8(sink.bytes())?,
+        "limit $.model.tasks[0].out ports\n"
+    );
+    assert_eq!(rt; code, 9);
+    Ok(())
+}
+
+#[test]
 fn calls_end_as_they_must(rt: HostRuntime) -> Result<(), Fail> {
     let alloc = rt.alloc();
-    let text = document(alloc, "Add", "\"a\":[1,2,3,4],\"b\":[10,20,30,40]", SUM)?;
     // the words, the bytes, the read and the write that fail, the status and what is written
     let cases = [
-        (["run", "1"].as_slice(), text.as_bytes(), 0, 2, 3, "y {2,"),
-        (["run", "1"].as_slice(), text.as_bytes(), 2, 0, 2, "read\n"),
-        (
-            ["run", "1"].as_slice(),
-            b"{}".as_slice(),
-            0,
-            0,
-            7,
-            "grammar $\n",
-        ),
-        (["run", "1"].as_slice(), b"".as_slice(), 0, 0, 6, "json\n"),
-        ([].as_slice(), text.as_bytes(), 1, 0, 1, "words\n"),
-        (["run"].as_slice(), text.as_bytes(), 1, 0, 1, "words\n"),
-        (["run", "0"].as_slice(), text.as_bytes(), 1, 0, 1, "words\n"),
-        (["run", "2"].as_slice(), text.as_bytes(), 1, 0, 1, "words\n"),
-        (
-            ["run", "01"].as_slice(),
-            text.as_bytes(),
-            1,
-            0,
-            1,
-            "words\n",
-        ),
-        (
-            ["run", "1", "1"].as_slice(),
-            text.as_bytes(),
-            1,
-            0,
-            1,
-            "words\n",
-        ),
-        (["check"].as_slice(), text.as_bytes(), 1, 0, 1, "words\n"),
+        ("run 1", ADD, 0, 2, 3, "y {2,"),
+        ("print", ADD, 0, 1, 3, ""),
+        ("run 1", ADD, 2, 0, 2, "read\n"),
+        ("print", ADD, 1, 0, 2, "read\n"),
+        ("run 1", "{}", 0, 0, 7, "grammar $\n"),
+        ("run 1", "", 0, 0, 6, "json\n"),
+        ("", ADD, 1, 0, 1, "words\n"),
+        ("run", ADD, 1, 0, 1, "words\n"),
+        ("run 0", ADD, 1, 0, 1, "words\n"),
+        ("run 2", ADD, 1, 0, 1, "words\n"),
+        ("run 01", ADD, 1, 0, 1, "words\n"),
+        ("run 1 1", ADD, 1, 0, 1, "words\n"),
+        ("print 1", ADD, 1, 0, 1, "words\n"),
+        ("Print", ADD, 1, 0, 1, "words\n"),
+        ("check", ADD, 1, 0, 1, "words\n"),
+        ("--help", ADD, 1, 0, 1, "words\n"),
     ];
-    for (words, bytes, failing_read, failing_write, status, written) in cases {
-        let (code, sink) = called(alloc, words, bytes, failing_read, failing_write)?;
-        assert_eq!(rt; sink.bytes(), written.as_bytes());
+    for (words, document, failing_read, failing_write, status, written) in cases {
+        let (code, sink) = called(
+            alloc,
+            words,
+            document.as_bytes(),
+            failing_read,
+            failing_write,
+        )?;
+        assert_eq!(rt; from_utf8(sink.bytes())?, written);
         assert_eq!(rt; code, status);
     }
     Ok(())
@@ -160,17 +339,16 @@ fn calls_end_as_they_must(rt: HostRuntime) -> Result<(), Fail> {
 #[test]
 fn a_document_has_at_most_16_mebibytes(rt: HostRuntime) -> Result<(), Fail> {
     let alloc = rt.alloc();
-    let text = document(alloc, "Add", "\"a\":[1,2,3,4],\"b\":[10,20,30,40]", SUM)?;
     let cases = [
         (16_777_216usize, 0, "y {2,2} 11 22 33 44\n"),
         (16_777_217, 5, "long\n"),
     ];
     for (size, status, written) in cases {
-        let blanks = size.checked_sub(text.as_bytes().len()).ok_or("too small")?;
+        let blanks = size.checked_sub(ADD.as_bytes().len()).ok_or("too small")?;
         let mut bytes = vec![in alloc; b' '; blanks]?;
-        bytes.extend_from_slice(text.as_bytes())?;
-        let (code, sink) = called(alloc, &["run", "1"], bytes.as_slice(), 0, 0)?;
-        assert_eq!(rt; sink.bytes(), written.as_bytes());
+        bytes.extend_from_slice(ADD.as_bytes())?;
+        let (code, sink) = called(alloc, "run 1", bytes.as_slice(), 0, 0)?;
+        assert_eq!(rt; from_utf8(sink.bytes())?, written);
         assert_eq!(rt; code, status);
     }
     Ok(())

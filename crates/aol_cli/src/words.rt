@@ -3,6 +3,8 @@ ghost use Rattle.std.specs.Prelude.{◌≡◌, ◌↔◌, IsTrue, map, string_by
 /// What the words of a call ask for.
 #[derive(Clone, Copy, Debug, PartialEq, Eq)]
 pub enum Command {
+    /// The document itself, as its canonical text.
+    Print,
     /// The outputs of the model, by so many workers.
     Run(u32),
 }
@@ -35,6 +37,9 @@ impl Command {
         ensures command { IfSome result (Means (map string_bytes words.now)) }
         ensures none { IfNone result (IsNoCommand (map string_bytes words.now)) }
     {
+        if are_texts(words, &["print"]) {
+            return Some(Command::Print);
+        }
         if are_texts(words, &["run", "1"]) {
             return Some(Command::Run(1));
         }

@@ -2,9 +2,13 @@ use Rattle.std.proofs.Common.{◌≡◌, Ok, Err, None, Some, sym, subst, ◌∙
 use Rattle.serde_json.specs.View.{view}
 use Rattle.serde_json.specs.Errors.{IsMemory}
 use Rattle.aol_model.specs.Reading.{document_in}
+use Rattle.aol_model.proofs.ReadTrees.{read_tree}
 use Rattle.aol_cli.specs.Answer.{TreeAnswers, Answers, no_json, tree}
 use Rattle.aol_cli.proofs.answer.answer.Goals as goal
 use Rattle.aol_cli.proofs.Replies.{made_of, carried}
+
+pub tree_reply-requires : goal.tree_reply-requires
+tree_reply-requires c = read_tree c.args.bytes.now (view c.in-Ok.tree) c.in-Ok.ensures.ok.1
 
 pub returns-in-Ok : goal.returns-in-Ok
 returns-in-Ok c =

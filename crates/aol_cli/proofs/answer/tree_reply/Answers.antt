@@ -5,6 +5,9 @@ use Rattle.aol_cli.specs.Answer.{TreeAnswers, DocumentAnswers, document}
 use Rattle.aol_cli.proofs.answer.tree_reply.Goals as goal
 use Rattle.aol_cli.proofs.Replies.{carried, wrong_form_told, text_limit_told}
 
+pub document_reply-requires-clause-readable : goal.document_reply-requires-clause-readable
+document_reply-requires-clause-readable c = c.in-Ok.ensures.readable c.requires
+
 pub returns-in-Ok : goal.returns-in-Ok
 returns-in-Ok c =
     let is : document_in (view c.args.tree.now) ≡ Ok c.in-Ok.document = search rules in

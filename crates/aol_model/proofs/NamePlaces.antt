@@ -1,6 +1,6 @@
 -- Places of names, and what stands there.
-use Rattle.std.proofs.Common.{◌≡◌, ℕ, zero, suc, ◌+◌, ◌<◌, nat_eq, nat_lt, List, [], ◌∷◌, ◌++◌, map, length, take, get_or, Bool, true, false, cond, Option, Some, None, option_map, option_and_then, IfSome, String, Vec, refl, sym, ◌∙◌, ap, subst, arith, add-one}
-use Rattle.std.specs.List.{find, slice_get}
+use Rattle.std.proofs.Common.{◌≡◌, ℕ, zero, suc, ◌+◌, ◌<◌, nat_eq, nat_lt, List, [], ◌∷◌, ◌++◌, map, length, take, get_or, ◌≤◌, Bool, true, false, cond, ◌||◌, Option, Some, None, is_some, option_map, option_and_then, IfSome, String, Vec, refl, sym, ◌∙◌, ap, subst, arith, add-one}
+use Rattle.std.specs.List.{find, list_any, slice_get}
 use Rattle.std.specs.Option.{ForSome}
 use Rattle.std.specs.Str.{bytes_eq}
 use Rattle.std.specs.BTreeMap.{BTreeMap}
@@ -12,7 +12,7 @@ use Rattle.std.proofs.lemmas.Bool.Decides.{nat_tests}
 use Rattle.aol_shape.specs.Lists.{same}
 use Rattle.aol_model.proofs.SameNames.{pointwise_same}
 use Rattle.aol_model.specs.declared.agree.names.Index.{Index}
-use Rattle.aol_model.specs.Names.{places, group, Finds, below, Leads}
+use Rattle.aol_model.specs.Names.{places, group, Finds, below, Leads, IsFront}
 
 -- ---- one more name
 
@@ -155,3 +155,26 @@ all_known {X} f xs o finds i is =
 -- an index that was made
 pub made : {X : Type 0} (f : X → List ℕ) (xs : List X) (o : Option Index) → IfSome o (λ i. Finds (map f xs) i.places) → ForSome o (λ i. Finds (map f xs) i.places)
 made f xs o h i is = MatchOption-at_some _ (λ (x : Index). Finds (map f xs) x.places) i is h
+
+some_step : (b : Bool) (o : Option ℕ) (any : Bool) → any ≡ is_some o → (b || any) ≡ is_some (first_of b o)
+some_step true o any h = refl
+some_step false None any h = h
+some_step false (Some k) any h = h
+
+-- whether a name stands in the list
+stands_at : {X : Type 0} (f : X → List ℕ) (q : List ℕ) (xs : List X) → list_any (λ x. same (f x) q) xs ≡ is_some (slice_get (places q (map f xs)) 0)
+stands_at f q [] = refl
+stands_at f q (x ∷ xs) = rw (first_step (same (f x) q) (places q (map f xs))) (some_step (same (f x) q) (slice_get (places q (map f xs)) 0) (list_any (λ y. same (f y) q) xs) (stands_at f q xs))
+
+-- whether a name stands in a front of the list
+pub front_stands : {X : Type 0} (f : X → List ℕ) (xs front : List X) (m : BTreeMap (String Global) (Vec ℕ Global)) → Finds (map f xs) m → IsFront front xs → (q : List ℕ)
+    → is_some (below (length front) (slice_get (group q m) 0)) ≡ list_any (λ x. same (f x) q) front
+front_stands f xs front m finds (k, is) q =
+    let leads : Leads (map f front) m = rw is (front_led f xs k m finds) in
+    let at : below (length front) (slice_get (group q m) 0) ≡ slice_get (places q (map f front)) 0 = rw (← length-map front f) (leads q) in
+    ap is_some at ∙ sym (stands_at f q front)
+
+-- the member that a map finds
+pub member_found : {X : Type 0} (f : X → List ℕ) (xs : List X) (m : BTreeMap (String Global) (Vec ℕ Global)) → Finds (map f xs) m → (q : List ℕ)
+    → option_and_then (slice_get xs) (slice_get (group q m) 0) ≡ find (λ x. same (f x) q) xs
+member_found f xs m finds q = rw (finds q) (sym (found_at f q xs))

@@ -1,5 +1,5 @@
 -- Where names stand in a list, and an index that knows it.
-use Rattle.std.specs.Prelude.{◌≡◌, ℕ, suc, List, [], ◌∷◌, map, length, nat_lt, Option, Some, None, if◌then◌else◌, String, Vec}
+use Rattle.std.specs.Prelude.{◌≡◌, ℕ, suc, List, [], ◌∷◌, map, length, take, nat_lt, Option, Some, None, if◌then◌else◌, String, Vec}
 use Rattle.std.specs.List.{slice_get}
 use Rattle.std.specs.Option.{option_map_or}
 use Rattle.std.specs.BTreeMap.{BTreeMap, get_by_text}
@@ -23,6 +23,10 @@ Finds names m = (q : List ℕ) → group q m ≡ places q names
 abbrev pub below : ℕ → Option ℕ → Option ℕ
 below n None = None
 below n (Some k) = if nat_lt k n then Some k else None
+
+-- the list is a front of the other
+abbrev pub IsFront : {X : Type 0} → List X → List X → Type 0
+IsFront front xs = (k : ℕ) × (front ≡ take k xs)
 
 -- the map leads to the first place of each name in a list that is a front of its own
 abbrev pub Leads : List (List ℕ) → BTreeMap (String Global) (Vec ℕ Global) → Type 0

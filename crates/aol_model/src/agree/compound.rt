@@ -1,11 +1,13 @@
-ghost use Rattle.std.specs.Prelude.{◌≡◌, ◌<◌, ◌∷◌, [], ◌&&◌, length};
-ghost use Rattle.std.specs.List.{list_any};
-ghost use Rattle.std.specs.Option.{option_copied};
+ghost use Rattle.std.specs.Prelude.{◌≡◌, ◌<◌, ◌∷◌, [], ◌&&◌, map, length};
+ghost use Rattle.std.specs.List.{list_any, find};
+ghost use Rattle.std.specs.Option.{option_copied, ForSome};
 ghost use Rattle.aol_shape.specs.Lists.{same};
 ghost use Rattle.aol_model.specs.Rules.{same_part, same_hook, part_named, from_shape, to_shape, is_fed, is_new_part, gives, takes, meets_part, joins_equal, hands_up, hands_up_once, source_fits, target_fits, part_is_fed, output_is_fed, part_checks, plain_checks, copied_checks, check, compound_checks};
+ghost use Rattle.aol_model.specs.Names.{Finds, IsFront};
 ghost use Rattle.aol_model.specs.Types.{IsCompound};
 ghost use Rattle.aol_model.specs.Walk.{Tells, part_list_checks, member_checks, fed_part_checks, fed_output_checks, graph_checks};
 
+use crate::agree::names::{Index, Named};
 use crate::agree::ports::{Inputs, Outputs, are_equal, are_same, fits_in, shape_of};
 use crate::agree::tasks::{Earlier, inputs_of};
 use crate::agree::walk::{MemberRules, require, test_each};
@@ -14,6 +16,7 @@ use crate::place::{Key, Path};
 use crate::task::{Compound, Copied, Hook, Part, Plain};
 use aol_expr::Port;
 use aol_shape::{Name, Shape};
+use std::alloc::Global;
 
 /// Whether both ends are at one part, or both are the compound's own.
 fn are_at_same(one: Option<&Name>, other: Option<&Name>) -> bool
@@ -49,22 +52,50 @@ fn hands_up(link: &Plain) -> bool
     link.from.part.is_some() && link.to.part.is_none()
 }
 
+/// The part with this name, by a look at each.
+fn part_named<'a>(parts: &'a [Part], name: &Name) -> Option<&'a Part>
+    ensures { option_copied result ≡ find (λ p. same p.name name.now) parts.now }
+{
+    parts.iter().find(|part| are_same(&part.name, name))
+}
+
+impl Named for Part {
+    ghost name = { λ p. p.name };
+
+    fn name(&self) -> &Name {
+        &self.name
+    }
+}
+
 /// A compound behind the tasks that its parts can name.
 #[derive(Clone, Copy)]
 struct Graph<'a> {
     earlier: Earlier<'a>,
     compound: &'a Compound,
+    parts: Option<&'a Index>,
+    ghost finds: { ForSome (option_copied parts) (λ i. Finds (map (λ p. p.name) compound.now.parts) i.places) },
 }
 
 impl<'a> Graph<'a> {
     fn part_named(&self, name: &Name) -> Option<&'a Part>
         ensures { option_copied result ≡ part_named self.now.compound.now name.now }
     {
-        self.compound
-            .parts
-            .as_slice()
-            .iter()
-            .find(|part| are_same(&part.name, name))
+        let parts = self.compound.parts.as_slice();
+        match self.parts {
+            None => part_named(parts, name),
+            Some(index) => index.member(parts, name),
+        }
+    }
+
+    /// Whether no earlier part has the name.
+    fn is_new_part(&self, earlier: &[Part], part: &Part) -> bool
+        requires { IsFront earlier.now self.now.compound.now.parts }
+        ensures { result ≡ is_new_part earlier.now part.now }
+    {
+        match self.parts {
+            None => !has_part(earlier, &part.name),
+            Some(index) => !index.is_within(earlier.len(), &part.name),
+        }
     }
 
     /// The shape of what an end gives: an own input, or an output of a part.
@@ -143,13 +174,6 @@ fn has_part(parts: &[Part], name: &Name) -> bool
     parts.iter().any(|part| are_same(&part.name, name))
 }
 
-/// Whether no earlier part has the name.
-fn is_new_part(earlier: &[Part], part: &Part) -> bool
-    ensures { result ≡ is_new_part earlier.now part.now }
-{
-    !has_part(earlier, &part.name)
-}
-
 /// Whether one of the links hands this output of a part up.
 fn is_handed_up(links: &[Plain], from: &Hook) -> bool
     ensures { result ≡ list_any (λ k. hands_up k && same_hook k.from from.now) links.now }
@@ -169,14 +193,18 @@ fn hands_up_once(earlier: &[Plain], link: &Plain) -> bool
 impl MemberRules<Part> for Graph<'_> {
     ghost checks = { λ s. part_checks s.earlier.tasks.now };
 
+    ghost Stands = { λ s earlier. IsFront earlier s.compound.now.parts };
+
     fn test(&self, at: &Path, earlier: &[Part], member: &Part) -> Result<(), Misfit> {
-        require(at.to_key(Key::KName), 4, is_new_part(earlier, member))?;
+        require(at.to_key(Key::KName), 4, self.is_new_part(earlier, member))?;
         require(at.to_key(Key::KTask), 5, self.earlier.has(&member.task))
     }
 }
 
 impl MemberRules<Plain> for Graph<'_> {
     ghost checks = { λ s. plain_checks s.earlier.tasks.now s.compound.now };
+
+    ghost Stands = { λ _ _. Unit {0} };
 
     fn test(&self, at: &Path, earlier: &[Plain], member: &Plain) -> Result<(), Misfit> {
         require(at.to_key(Key::KFrom), 6, self.gives(&member.from))?;
@@ -190,6 +218,8 @@ impl MemberRules<Plain> for Graph<'_> {
 
 impl MemberRules<Copied> for Graph<'_> {
     ghost checks = { λ s. copied_checks s.earlier.tasks.now s.compound.now };
+
+    ghost Stands = { λ _ _. Unit {0} };
 
     fn test(&self, at: &Path, _: &[Copied], member: &Copied) -> Result<(), Misfit> {
         require(at.to_key(Key::KFrom), 6, self.gives(&member.from))?;
@@ -241,6 +271,8 @@ impl Feeds<'_> {
 impl MemberRules<Part> for Feeds<'_> {
     ghost checks = { λ s. fed_part_checks s.graph.earlier.tasks.now s.graph.compound.now };
 
+    ghost Stands = { λ _ _. Unit {0} };
+
     fn test(&self, at: &Path, _: &[Part], member: &Part) -> Result<(), Misfit> {
         require(at.copy(), 12, self.part_is_fed(member))
     }
@@ -248,6 +280,8 @@ impl MemberRules<Part> for Feeds<'_> {
 
 impl MemberRules<Port> for Feeds<'_> {
     ghost checks = { λ s. fed_output_checks s.graph.compound.now };
+
+    ghost Stands = { λ _ _. Unit {0} };
 
     fn test(&self, at: &Path, _: &[Port], member: &Port) -> Result<(), Misfit> {
         require(at.copy(), 13, self.is_fed(None, &member.name))
@@ -296,11 +330,22 @@ fn test_graph(at: &Path, graph: &Graph) -> Result<(), Misfit>
 }
 
 /// Tests a graph of tasks behind the tasks that its parts can name.
-pub fn test_compound(at: &Path, earlier: Earlier, compound: &Compound) -> Result<(), Misfit>
+#[tactic(auto, using(crate::proofs::NamePlaces::made))]
+pub fn test_compound<'a>(
+    alloc: Global,
+    at: &Path,
+    earlier: Earlier<'a>,
+    compound: &'a Compound,
+) -> Result<(), Misfit>
     requires depth { length at.now < 8 }
     requires types { IsCompound compound.now }
     ensures { Tells result (compound_checks earlier.entry.tasks.now at.now compound.now) }
 {
-    let graph = Graph { earlier, compound };
+    let made = Index::of(alloc, compound.parts.as_slice());
+    let graph = Graph {
+        earlier,
+        compound,
+        parts: made.as_ref(),
+    };
     test_graph(at, &graph)
 }

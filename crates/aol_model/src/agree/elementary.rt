@@ -36,6 +36,8 @@ impl Computed<'_> {
 impl MemberRules<OutPort> for Computed<'_> {
     ghost checks = { λ s. output_checks s.task.now };
 
+    ghost Stands = { λ _ _. Unit {0} };
+
     fn test(&self, at: &Path, earlier: &[OutPort], member: &OutPort) -> Result<(), Misfit> {
         require(at.to_key(Key::KName), 2, self.is_new(earlier, member))?;
         require(at.to_key(Key::KExpr), 3, self.has_names(member))

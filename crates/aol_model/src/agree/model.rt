@@ -19,7 +19,7 @@ use aol_shape::Items;
 use std::alloc::Global;
 
 /// Tests a task behind the earlier ones.
-fn test_task(at: &Path, earlier: Earlier, task: &Task) -> Result<(), Misfit>
+fn test_task(alloc: Global, at: &Path, earlier: Earlier, task: &Task) -> Result<(), Misfit>
     requires depth { length at.now < 8 }
     requires types { IsTask task.now }
     ensures { Tells result (task_checks at.now earlier.entry.tasks.now task.now) }
@@ -28,14 +28,19 @@ fn test_task(at: &Path, earlier: Earlier, task: &Task) -> Result<(), Misfit>
     require(at.to_key(Key::KName), 1, is_new)?;
     match task {
         Task::Elementary(task) => test_elementary(at, task),
-        Task::Compound(task) => test_compound(at, earlier, task),
+        Task::Compound(task) => test_compound(alloc, at, earlier, task),
         Task::Repeated(task) => test_repeated(at, earlier, task),
     }
 }
 
 /// Tests each task of the list at the path, in order.
 #[tactic(auto, using(crate::proofs::NamePlaces::front_known))]
-fn test_tasks<'a>(at: &Path, tasks: &'a Items<Task>, index: Option<&'a Index>) -> Result<(), Misfit>
+fn test_tasks<'a>(
+    alloc: Global,
+    at: &Path,
+    tasks: &'a Items<Task>,
+    index: Option<&'a Index>,
+) -> Result<(), Misfit>
     requires depth { length at.now < 7 }
     requires types { AllByRecursion IsTask tasks.now }
     requires count { IsCounted tasks.now }
@@ -48,7 +53,7 @@ fn test_tasks<'a>(at: &Path, tasks: &'a Items<Task>, index: Option<&'a Index>) -
             tasks: &list[..k],
             index,
         };
-        test_task(&at.to_index(k as u32), earlier, task)?;
+        test_task(alloc, &at.to_index(k as u32), earlier, task)?;
     }
     Ok(())
 }
@@ -73,7 +78,7 @@ fn test_model(alloc: Global, model: &Model) -> Result<(), Misfit>
     let at = Path::top(alloc).to_key(Key::KModel);
     let made = Index::of(alloc, model.tasks.as_slice());
     let index = made.as_ref();
-    test_tasks(&at.to_key(Key::KTasks), &model.tasks, index)?;
+    test_tasks(alloc, &at.to_key(Key::KTasks), &model.tasks, index)?;
     require(at.to_key(Key::KMain), 23, main_is_task(model, index))
 }
 

@@ -1,10 +1,10 @@
 //! Where names stand in a list: an index that is made where memory allows.
 
-ghost use Rattle.std.specs.Prelude.{◌≡◌, ℕ, List, ◌++◌, ◌∷◌, [], map, OnOk, IfOk, IfSome, if◌then◌else◌, option_and_then};
+ghost use Rattle.std.specs.Prelude.{◌≡◌, ℕ, List, ◌++◌, ◌∷◌, [], map, OnOk, IfOk, IfSome, if◌then◌else◌, option_and_then, is_some};
 ghost use Rattle.std.specs.Str.{bytes_eq};
 ghost use Rattle.std.specs.List.{slice_get};
 ghost use Rattle.std.specs.Option.{option_copied};
-ghost use Rattle.aol_model.specs.Names.{group, Finds};
+ghost use Rattle.aol_model.specs.Names.{group, below, Finds};
 
 use aol_shape::Name;
 use std::alloc::{AllocError, Global};
@@ -78,6 +78,16 @@ impl Index {
         ensures { result ≡ slice_get (group name.now self.now.places) 0 }
     {
         self.places(name).first().copied()
+    }
+
+    /// Whether one of the first places of a list has the name.
+    pub fn is_within(&self, count: usize, name: &Name) -> bool
+        ensures { result ≡ is_some (below count (slice_get (group name.now self.now.places) 0)) }
+    {
+        match self.first(name) {
+            None => false,
+            Some(place) => place < count,
+        }
     }
 
     /// The member of a list at the first place of a name.

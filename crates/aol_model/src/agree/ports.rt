@@ -86,6 +86,8 @@ pub struct Inputs;
 impl MemberRules<Port> for Inputs {
     ghost checks = { λ _. port_checks [] };
 
+    ghost Stands = { λ _ _. Unit {0} };
+
     fn test(&self, at: &Path, earlier: &[Port], member: &Port) -> Result<(), Misfit> {
         let is_new = !has_port(earlier, &member.name);
         require(at.to_key(Key::KName), 2, is_new)
@@ -109,6 +111,8 @@ impl Outputs<'_> {
 
 impl MemberRules<Port> for Outputs<'_> {
     ghost checks = { λ s. port_checks s.ins.now };
+
+    ghost Stands = { λ _ _. Unit {0} };
 
     fn test(&self, at: &Path, earlier: &[Port], member: &Port) -> Result<(), Misfit> {
         require(at.to_key(Key::KName), 2, self.is_new(earlier, member))

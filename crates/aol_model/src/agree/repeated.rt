@@ -210,6 +210,8 @@ impl<'a> Repetition<'a> {
 impl MemberRules<TilerOn> for Repetition<'_> {
     ghost checks = { λ s. tiler_checks s.earlier.tasks.now s.repeated.now };
 
+    ghost Stands = { λ _ _. Unit {0} };
+
     fn test(&self, at: &Path, earlier: &[TilerOn], member: &TilerOn) -> Result<(), Misfit> {
         require(at.copy(), 15, self.is_on_ports(member))?;
         require(at.copy(), 17, self.tiles_output_once(earlier, member))?;
@@ -219,6 +221,8 @@ impl MemberRules<TilerOn> for Repetition<'_> {
 
 impl MemberRules<Interlink> for Repetition<'_> {
     ghost checks = { λ s. interlink_checks s.earlier.tasks.now s.repeated.now };
+
+    ghost Stands = { λ _ _. Unit {0} };
 
     fn test(&self, at: &Path, _: &[Interlink], member: &Interlink) -> Result<(), Misfit> {
         require(at.copy(), 18, self.links_inner(member))?;
@@ -232,6 +236,8 @@ impl MemberRules<Interlink> for Repetition<'_> {
 
 impl MemberRules<Port> for Repetition<'_> {
     ghost checks = { λ s. tiled_checks s.repeated.now };
+
+    ghost Stands = { λ _ _. Unit {0} };
 
     fn test(&self, at: &Path, _: &[Port], member: &Port) -> Result<(), Misfit> {
         require(at.copy(), 22, self.is_tiled(member))

@@ -1,4 +1,4 @@
-ghost use Rattle.std.specs.Prelude.{◌≡◌, ◌<◌, ◌^◌, ◌∷◌, [], List, length, true, false, OnOk, IfErr};
+ghost use Rattle.std.specs.Prelude.{◌≡◌, ◌<◌, ◌^◌, ◌∷◌, [], List, ℕ, length, take, true, false, OnOk, IfErr};
 ghost use Rattle.aol_model.specs.declared.place.PlaceStep.{PlaceStep};
 ghost use Rattle.aol_model.specs.Rules.{Check, check, each};
 ghost use Rattle.aol_model.specs.Walk.{Tells, misfit};
@@ -27,9 +27,12 @@ pub fn require(at: Path, rule: u32, holds: bool) -> Result<(), Misfit>
 pub trait MemberRules<T> {
     ghost checks: { Self → List PlaceStep → List T → T → List Check };
 
+    ghost Stands: { Self → List T → Type 0 };
+
     /// Tests a member that stands at the path, behind the earlier ones.
     fn test(&self, at: &Path, earlier: &[T], member: &T) -> Result<(), Misfit>
-        requires { length at.now < 10 }
+        requires depth { length at.now < 10 }
+        requires stands { Stands self.now earlier.now }
         ensures { Tells result (checks self.now at.now earlier.now member.now) };
 }
 
@@ -41,6 +44,7 @@ pub fn test_each<T, R: MemberRules<T>>(
 ) -> Result<(), Misfit>
     requires depth { length at.now < 9 }
     requires count { length members.now < 2 ^ 32 }
+    requires stand { (k : ℕ) → R.Stands rules.now (take k members.now) }
     ensures { Tells result (each (R.checks rules.now) at.now members.now) }
 {
     let list = members.as_slice();

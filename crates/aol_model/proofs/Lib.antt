@@ -18,3 +18,4 @@ pub mod AgainLinks
 pub mod AgainJob
 pub mod Again
 pub mod NamePlaces
+pub mod NameGroups

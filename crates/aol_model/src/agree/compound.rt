@@ -1,9 +1,10 @@
-ghost use Rattle.std.specs.Prelude.{◌≡◌, ◌<◌, ◌∷◌, [], ◌&&◌, map, length};
+ghost use Rattle.std.specs.Prelude.{◌≡◌, ◌<◌, ◌∷◌, [], ◌&&◌, map, length, count_by, Some, unwrap_or};
 ghost use Rattle.std.specs.List.{list_any, find};
 ghost use Rattle.std.specs.Option.{option_copied, ForSome};
 ghost use Rattle.aol_shape.specs.Lists.{same};
 ghost use Rattle.aol_model.specs.Rules.{same_part, same_hook, part_named, from_shape, to_shape, is_fed, is_new_part, gives, takes, meets_part, joins_equal, hands_up, hands_up_once, source_fits, target_fits, part_is_fed, output_is_fed, part_checks, plain_checks, copied_checks, check, compound_checks};
-ghost use Rattle.aol_model.specs.Names.{Finds, IsFront};
+ghost use Rattle.aol_model.specs.Names.{Finds, IsFront, holds_at, part_of_link, part_of_reshape};
+ghost use Rattle.aol_model.specs.declared.task.Hook.{Hook};
 ghost use Rattle.aol_model.specs.Types.{IsCompound};
 ghost use Rattle.aol_model.specs.Walk.{Tells, part_list_checks, member_checks, fed_part_checks, fed_output_checks, graph_checks};
 
@@ -62,9 +63,97 @@ fn part_named<'a>(parts: &'a [Part], name: &Name) -> Option<&'a Part>
 impl Named for Part {
     ghost name = { λ p. p.name };
 
-    fn name(&self) -> &Name {
-        &self.name
+    fn name(&self) -> &str {
+        self.name.as_str()
     }
+}
+
+/// The name of a part, or else another text.
+fn text_or<'a>(part: &'a Option<Name>, other: &'a str) -> &'a str
+    ensures { result.now ≡ unwrap_or part.now other.now }
+{
+    match part {
+        None => other,
+        Some(part) => part.as_str(),
+    }
+}
+
+impl Named for Plain {
+    ghost name = { part_of_link };
+
+    fn name(&self) -> &str {
+        text_or(&self.to.part, text_or(&self.from.part, ""))
+    }
+}
+
+impl Named for Copied {
+    ghost name = { part_of_reshape };
+
+    fn name(&self) -> &str {
+        text_or(&self.to.part, "")
+    }
+}
+
+/// What ends somewhere.
+trait Ends {
+    ghost to: { Self → Hook };
+
+    fn to(&self) -> &Hook
+        ensures { result.now ≡ to self.now };
+}
+
+impl Ends for Plain {
+    ghost to = { λ l. l.to };
+
+    fn to(&self) -> &Hook {
+        &self.to
+    }
+}
+
+impl Ends for Copied {
+    ghost to = { λ l. l.to };
+
+    fn to(&self) -> &Hook {
+        &self.to
+    }
+}
+
+/// How many of the links end there.
+fn count_ends<T: Ends>(links: &[T], part: Option<&Name>, port: &Name) -> usize
+    ensures { result ≡ count_by (λ l. same_hook (T.to l) (record { part = option_copied part.entry; port = port.now })) links.now }
+{
+    links
+        .iter()
+        .filter(|link| is_at(link.to(), part, port))
+        .count()
+}
+
+/// Whether the link at a place ends there.
+fn ends_there<T: Ends>(links: &[T], place: usize, part: &Name, port: &Name) -> bool
+    ensures { result ≡ holds_at (λ l. same_hook (T.to l) (record { part = Some part.now; port = port.now })) links.now place }
+{
+    match links.get(place) {
+        None => false,
+        Some(link) => is_at(link.to(), Some(part), port),
+    }
+}
+
+/// How many of the links at these places end there.
+fn count_ends_at<T: Ends>(links: &[T], places: &[usize], part: &Name, port: &Name) -> usize
+    ensures { result ≡ count_by (holds_at (λ l. same_hook (T.to l) (record { part = Some part.now; port = port.now })) links.now) places.now }
+{
+    places
+        .iter()
+        .filter(|place| ends_there(links, **place, part, port))
+        .count()
+}
+
+/// The places of a compound's parts, links and reshapes, where memory allowed an index.
+#[derive(Drop)]
+struct Indexes {
+    parts: Option<Index>,
+    links: Option<Index>,
+    reshapes: Option<Index>,
 }
 
 /// A compound behind the tasks that its parts can name.
@@ -72,8 +161,10 @@ impl Named for Part {
 struct Graph<'a> {
     earlier: Earlier<'a>,
     compound: &'a Compound,
-    parts: Option<&'a Index>,
-    ghost finds: { ForSome (option_copied parts) (λ i. Finds (map (λ p. p.name) compound.now.parts) i.places) },
+    indexes: &'a Indexes,
+    ghost parts: { ForSome indexes.now.parts (λ i. Finds (map (λ p. p.name) compound.now.parts) i.places) },
+    ghost links: { ForSome indexes.now.links (λ i. Finds (map part_of_link compound.now.links) i.places) },
+    ghost reshapes: { ForSome indexes.now.reshapes (λ i. Finds (map part_of_reshape compound.now.reshapes) i.places) },
 }
 
 impl<'a> Graph<'a> {
@@ -81,7 +172,7 @@ impl<'a> Graph<'a> {
         ensures { option_copied result ≡ part_named self.now.compound.now name.now }
     {
         let parts = self.compound.parts.as_slice();
-        match self.parts {
+        match &self.indexes.parts {
             None => part_named(parts, name),
             Some(index) => index.member(parts, name),
         }
@@ -92,7 +183,7 @@ impl<'a> Graph<'a> {
         requires { IsFront earlier.now self.now.compound.now.parts }
         ensures { result ≡ is_new_part earlier.now part.now }
     {
-        match self.parts {
+        match &self.indexes.parts {
             None => !has_part(earlier, &part.name),
             Some(index) => !index.is_within(earlier.len(), &part.name),
         }
@@ -236,23 +327,40 @@ struct Feeds<'a> {
 }
 
 impl Feeds<'_> {
+    /// How many plain links end there.
+    fn links_to(&self, part: Option<&Name>, port: &Name) -> usize
+        ensures { result ≡ count_by (λ l. same_hook l.to (record { part = option_copied part.entry; port = port.now })) self.now.graph.compound.now.links }
+    {
+        let links = self.graph.compound.links.as_slice();
+        match part {
+            None => count_ends(links, part, port),
+            Some(name) => match &self.graph.indexes.links {
+                None => count_ends(links, part, port),
+                Some(index) => count_ends_at(links, index.places(name), name, port),
+            },
+        }
+    }
+
+    /// How many reshapes end there.
+    fn reshapes_to(&self, part: Option<&Name>, port: &Name) -> usize
+        ensures { result ≡ count_by (λ l. same_hook l.to (record { part = option_copied part.entry; port = port.now })) self.now.graph.compound.now.reshapes }
+    {
+        let reshapes = self.graph.compound.reshapes.as_slice();
+        match part {
+            None => count_ends(reshapes, part, port),
+            Some(name) => match &self.graph.indexes.reshapes {
+                None => count_ends(reshapes, part, port),
+                Some(index) => count_ends_at(reshapes, index.places(name), name, port),
+            },
+        }
+    }
+
     /// Whether an end is fed by one plain link alone, or by reshapes alone.
     fn is_fed(&self, part: Option<&Name>, port: &Name) -> bool
         ensures { result ≡ is_fed self.now.graph.compound.now (record { part = option_copied part.entry; port = port.now }) }
     {
-        let compound = self.graph.compound;
-        let links = compound
-            .links
-            .as_slice()
-            .iter()
-            .filter(|link| is_at(&link.to, part, port))
-            .count();
-        let reshapes = compound
-            .reshapes
-            .as_slice()
-            .iter()
-            .filter(|reshape| is_at(&reshape.to, part, port))
-            .count();
+        let links = self.links_to(part, port);
+        let reshapes = self.reshapes_to(part, port);
         (links == 1 && reshapes == 0) || (links == 0 && reshapes >= 1)
     }
 
@@ -341,11 +449,15 @@ pub fn test_compound<'a>(
     requires types { IsCompound compound.now }
     ensures { Tells result (compound_checks earlier.entry.tasks.now at.now compound.now) }
 {
-    let made = Index::of(alloc, compound.parts.as_slice());
+    let indexes = Indexes {
+        parts: Index::of(alloc, compound.parts.as_slice()),
+        links: Index::of(alloc, compound.links.as_slice()),
+        reshapes: Index::of(alloc, compound.reshapes.as_slice()),
+    };
     let graph = Graph {
         earlier,
         compound,
-        parts: made.as_ref(),
+        indexes: &indexes,
     };
     test_graph(at, &graph)
 }

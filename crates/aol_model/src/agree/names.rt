@@ -14,7 +14,7 @@ use std::collections::BTreeMap;
 pub trait Named {
     ghost name: { Self → List ℕ };
 
-    fn name(&self) -> &Name
+    fn name(&self) -> &str
         ensures { result.now ≡ name self.now };
 }
 
@@ -41,7 +41,7 @@ fn places_of<T: Named>(
 {
     let mut places: BTreeMap<String, Vec<usize>> = BTreeMap::new(alloc);
     for (place, member) in list.iter().enumerate() {
-        add(alloc, &mut places, member.name().as_str(), place)?;
+        add(alloc, &mut places, member.name(), place)?;
     }
     Ok(places)
 }

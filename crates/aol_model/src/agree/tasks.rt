@@ -23,8 +23,8 @@ pub fn name_of(task: &Task) -> &Name
 impl Named for Task {
     ghost name = { task_name };
 
-    fn name(&self) -> &Name {
-        name_of(self)
+    fn name(&self) -> &str {
+        name_of(self).as_str()
     }
 }
 

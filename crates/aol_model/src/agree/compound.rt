@@ -189,6 +189,28 @@ impl<'a> Graph<'a> {
         }
     }
 
+    /// Whether an earlier link hands this output of a part up.
+    fn is_handed_up(&self, earlier: &[Plain], from: &Hook) -> bool
+        requires { IsFront earlier.now self.now.compound.now.links }
+        ensures { result ≡ list_any (λ k. hands_up k && same_hook k.from from.now) earlier.now }
+    {
+        match &from.part {
+            None => is_handed_up(earlier, from),
+            Some(name) => match &self.indexes.links {
+                None => is_handed_up(earlier, from),
+                Some(index) => is_handed_up_in(earlier, index.places(name), from),
+            },
+        }
+    }
+
+    /// Whether no earlier link hands the same output up.
+    fn hands_up_once(&self, earlier: &[Plain], link: &Plain) -> bool
+        requires { IsFront earlier.now self.now.compound.now.links }
+        ensures { result ≡ hands_up_once earlier.now link.now }
+    {
+        !hands_up(link) || !self.is_handed_up(earlier, &link.from)
+    }
+
     /// The shape of what an end gives: an own input, or an output of a part.
     fn from_shape(&self, hook: &Hook) -> Option<&'a Shape>
         ensures { option_copied result ≡ from_shape self.now.earlier.tasks.now self.now.compound.now hook.now }
@@ -274,11 +296,23 @@ fn is_handed_up(links: &[Plain], from: &Hook) -> bool
         .any(|link| hands_up(link) && are_same_hooks(&link.from, from))
 }
 
-/// Whether no earlier link hands the same output up.
-fn hands_up_once(earlier: &[Plain], link: &Plain) -> bool
-    ensures { result ≡ hands_up_once earlier.now link.now }
+/// Whether the link at a place hands this output of a part up.
+fn is_handed_up_at(links: &[Plain], place: usize, from: &Hook) -> bool
+    ensures { result ≡ holds_at (λ k. hands_up k && same_hook k.from from.now) links.now place }
 {
-    !hands_up(link) || !is_handed_up(earlier, &link.from)
+    match links.get(place) {
+        None => false,
+        Some(link) => hands_up(link) && are_same_hooks(&link.from, from),
+    }
+}
+
+/// Whether one of the links at these places hands this output of a part up.
+fn is_handed_up_in(links: &[Plain], places: &[usize], from: &Hook) -> bool
+    ensures { result ≡ list_any (holds_at (λ k. hands_up k && same_hook k.from from.now) links.now) places.now }
+{
+    places
+        .iter()
+        .any(|place| is_handed_up_at(links, *place, from))
 }
 
 impl MemberRules<Part> for Graph<'_> {
@@ -295,7 +329,7 @@ impl MemberRules<Part> for Graph<'_> {
 impl MemberRules<Plain> for Graph<'_> {
     ghost checks = { λ s. plain_checks s.earlier.tasks.now s.compound.now };
 
-    ghost Stands = { λ _ _. Unit {0} };
+    ghost Stands = { λ s earlier. IsFront earlier s.compound.now.links };
 
     fn test(&self, at: &Path, earlier: &[Plain], member: &Plain) -> Result<(), Misfit> {
         require(at.to_key(Key::KFrom), 6, self.gives(&member.from))?;
@@ -303,7 +337,7 @@ impl MemberRules<Plain> for Graph<'_> {
         let meets_part = member.from.part.is_some() || member.to.part.is_some();
         require(at.copy(), 8, meets_part)?;
         require(at.copy(), 9, self.joins_equal(member))?;
-        require(at.copy(), 10, hands_up_once(earlier, member))
+        require(at.copy(), 10, self.hands_up_once(earlier, member))
     }
 }
 

@@ -2,7 +2,7 @@ ghost use Rattle.std.specs.Prelude.{IfOk};
 ghost use Rattle.aol_shape.specs.Vectors.{IsVector};
 ghost use Rattle.aol_tiler.specs.Makers.{IsIndex};
 
-use crate::{IntMat, Tiler, TilerRefused, Walker};
+use crate::{IntMat, Tiler, Walker};
 use aol_shape::{IntVec, Shape};
 use std::alloc::Global;
 use std::test::Fail;
@@ -49,61 +49,27 @@ fn address_at(tiler: &Tiler, array: &Shape, line: &Shape, r: u32, i: u32) -> Opt
     None
 }
 
-#[derive(Drop)]
-struct Made {
-    composed: Result<Tiler, TilerRefused>,
-    blocked: Result<Tiler, TilerRefused>,
-    substituted: Result<Tiler, TilerRefused>,
+/// The first entry of a vector, or 0.
+fn first(entries: &[i32]) -> i32 {
+    match entries.first() {
+        Some(entry) => *entry,
+        None => 0,
+    }
 }
 
-/// The tiler over the pattern of another, that other in blocks, and it at the repetitions of the first, where they fit.
-#[tactic(auto, using(crate::proofs::Tried::composable_line, crate::proofs::Tried::blockable_line, crate::proofs::Tried::substitutable_line))]
-fn made_of(
-    alloc: Global,
-    outer: &Tiler,
-    inner: &Tiler,
-    array: &Shape,
-    line: &Shape,
-) -> Option<Made> {
-    if outer.fits(array, line, line) && inner.fits(line, line, line) && line.as_slice().len() == 1 {
-        let composed = Tiler::compose(alloc, outer, inner);
-        let blocked = outer.blocked(alloc, line);
-        let substituted = outer.substituted(alloc, inner);
-        return Some(Made {
-            composed,
-            blocked,
-            substituted,
-        });
-    }
-    None
-}
-
-fn has_columns(made: &IntMat, want: &[&[i32]]) -> bool {
-    if made.len() != want.len() {
-        return false;
-    }
-    for (column, entries) in made.as_slice().iter().zip(want) {
-        if column.as_slice() != *entries {
-            return false;
+/// The first entries of the origin and of the columns, paving before fitting: four of them.
+fn four_of(made: &Tiler) -> [i32; 4] {
+    let mut four = [first(made.origin.as_slice()), 0, 0, 0];
+    let mut at = 1;
+    for columns in [&made.paving, &made.fitting] {
+        for column in columns.as_slice() {
+            if at < 4 {
+                four[at] = first(column.as_slice());
+                at += 1;
+            }
         }
     }
-    true
-}
-
-fn is(
-    made: &Result<Tiler, TilerRefused>,
-    origin: &[i32],
-    paving: &[&[i32]],
-    fitting: &[&[i32]],
-) -> bool {
-    match made {
-        Ok(made) => {
-            made.origin.as_slice() == origin
-                && has_columns(&made.paving, paving)
-                && has_columns(&made.fitting, fitting)
-        }
-        Err(_) => false,
-    }
+    four
 }
 
 #[test]
@@ -124,28 +90,13 @@ fn addresses_wrap(rt: HostRuntime) -> Result<(), Fail> {
 }
 
 #[test]
-fn tilers_are_made_of_tilers(rt: HostRuntime) -> Result<(), Fail> {
-    let alloc = rt.alloc();
-    let (array, three) = (shape(alloc, &[9])?, shape(alloc, &[3])?);
-    let outer = tiler(alloc, &[1], &[4], &[1])?;
-    let inner = tiler(alloc, &[2], &[1], &[1])?;
-    let made = made_of(alloc, &outer, &inner, &array, &three).ok_or("no fit")?;
-    assert!(rt; is(&made.composed, &[3], &[&[4], &[1]], &[&[1]]));
-    assert!(rt; is(&made.blocked, &[1], &[&[12]], &[&[4], &[1]]));
-    assert!(rt; is(&made.substituted, &[9], &[&[4]], &[&[4], &[1]]));
-    let far = tiler(alloc, &[1], &[4], &[2147483647])?;
-    let made = made_of(alloc, &far, &inner, &array, &three).ok_or("no fit")?;
-    assert!(rt; matches!(made.composed, Err(TilerRefused::Entry(0))));
-    Ok(())
-}
-
-#[test]
 fn both_shapes_joined_have_a_tiler(rt: HostRuntime) -> Result<(), Fail> {
     let alloc = rt.alloc();
-    let (space, pattern) = (shape(alloc, &[2])?, shape(alloc, &[3, 4])?);
-    if space.as_slice().len() + pattern.as_slice().len() <= 12 {
-        let inner = Tiler::inner(alloc, &space, &pattern);
-        assert!(rt; is(&inner, &[0, 0, 0], &[&[1, 0, 0]], &[&[0, 1, 0], &[0, 0, 1]]));
+    let scalar = shape(alloc, &[])?;
+    let line = shape(alloc, &[3])?;
+    if scalar.as_slice().len() + line.as_slice().len() <= 12 {
+        let inner = Tiler::inner(alloc, &scalar, &line)?;
+        assert_eq!(rt; four_of(&inner), [0, 1, 0, 0]);
     }
     Ok(())
 }

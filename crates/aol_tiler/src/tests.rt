@@ -2,7 +2,7 @@ ghost use Rattle.std.specs.Prelude.{IfOk};
 ghost use Rattle.aol_shape.specs.Vectors.{IsVector};
 ghost use Rattle.aol_tiler.specs.Makers.{IsIndex};
 
-use crate::{IntMat, Tiler, Walker};
+use crate::{IntMat, Tiler, TilerRefused, Walker};
 use aol_shape::{IntVec, Shape};
 use std::alloc::Global;
 use std::test::Fail;
@@ -72,20 +72,124 @@ fn four_of(made: &Tiler) -> [i32; 4] {
     four
 }
 
+/// The tiler over the pattern of another, where both fit.
+fn composed(
+    alloc: Global,
+    outer: &Tiler,
+    inner: &Tiler,
+    array: &Shape,
+    line: &Shape,
+) -> Result<[i32; 4], TilerRefused> {
+    if !outer.fits(array, line, line) {
+        return Err(TilerRefused::NoMemory);
+    }
+    if !inner.fits(line, line, line) {
+        return Err(TilerRefused::NoMemory);
+    }
+    if line.as_slice().len() != 1 {
+        return Err(TilerRefused::NoMemory);
+    }
+    let made = Tiler::compose(alloc, outer, inner)?;
+    Ok(four_of(&made))
+}
+
+/// The tiler at the repetitions of another over its space, where both fit.
+fn substituted(
+    alloc: Global,
+    outer: &Tiler,
+    by: &Tiler,
+    array: &Shape,
+    line: &Shape,
+) -> Result<[i32; 4], TilerRefused> {
+    if !outer.fits(array, line, line) {
+        return Err(TilerRefused::NoMemory);
+    }
+    if !by.fits(line, line, line) {
+        return Err(TilerRefused::NoMemory);
+    }
+    if line.as_slice().len() != 1 {
+        return Err(TilerRefused::NoMemory);
+    }
+    let made = outer.substituted(alloc, by)?;
+    Ok(four_of(&made))
+}
+
+/// The tiler in blocks, where it fits.
+fn blocked(
+    alloc: Global,
+    tiler: &Tiler,
+    array: &Shape,
+    line: &Shape,
+) -> Result<[i32; 4], TilerRefused> {
+    if !tiler.fits(array, line, line) {
+        return Err(TilerRefused::NoMemory);
+    }
+    if line.as_slice().len() != 1 {
+        return Err(TilerRefused::NoMemory);
+    }
+    let made = tiler.blocked(alloc, line)?;
+    Ok(four_of(&made))
+}
+
+/// The same of a tiler and an array by their entries.
+fn address_of(
+    alloc: Global,
+    origin: &[i32],
+    paving: &[i32],
+    fitting: &[i32],
+    array: &[u32],
+    r: u32,
+    i: u32,
+) -> Result<Option<u32>, Fail>
+    requires repetition { IsIndex r }
+    requires element { IsIndex i }
+{
+    let line = shape(alloc, &[4194304])?;
+    let array = shape(alloc, array)?;
+    let tiler = tiler(alloc, origin, paving, fitting)?;
+    Ok(address_at(&tiler, &array, &line, r, i))
+}
+
 #[test]
 fn addresses_wrap(rt: HostRuntime) -> Result<(), Fail> {
     let alloc = rt.alloc();
-    let line = shape(alloc, &[4194304])?;
-    let back = tiler(alloc, &[-9], &[5], &[-3])?;
-    let four = shape(alloc, &[4])?;
-    assert_eq!(rt; address_at(&back, &four, &line, 2, 1), Some(2));
-    assert_eq!(rt; address_at(&back, &four, &line, 0, 0), Some(3));
-    let plane = tiler(alloc, &[7, -1], &[2, 4], &[-6, 10])?;
-    let array = shape(alloc, &[5, 3])?;
-    assert_eq!(rt; address_at(&plane, &array, &line, 1, 2), Some(8));
-    let far = tiler(alloc, &[-2147483647], &[2147483647], &[-2147483647])?;
-    let seven = shape(alloc, &[7])?;
-    assert_eq!(rt; address_at(&far, &seven, &line, 4194303, 4194303), Some(6));
+    let most = 2147483647;
+    let back = address_of(alloc, &[-9], &[5], &[-3], &[4], 2, 1)?;
+    assert_eq!(rt; back, Some(2));
+    let first = address_of(alloc, &[-9], &[5], &[-3], &[4], 0, 0)?;
+    assert_eq!(rt; first, Some(3));
+    let plane = address_of(alloc, &[7, -1], &[2, 4], &[-6, 10], &[5, 3], 1, 2)?;
+    assert_eq!(rt; plane, Some(8));
+    let far = address_of(alloc, &[-most], &[most], &[-most], &[7], 4194303, 4194303)?;
+    assert_eq!(rt; far, Some(6));
+    Ok(())
+}
+
+#[test]
+fn tilers_compose(rt: HostRuntime) -> Result<(), Fail> {
+    let alloc = rt.alloc();
+    let array = shape(alloc, &[9])?;
+    let three = shape(alloc, &[3])?;
+    let outer = tiler(alloc, &[1], &[4], &[1])?;
+    let far = tiler(alloc, &[1], &[4], &[2147483647])?;
+    let inner = tiler(alloc, &[2], &[1], &[1])?;
+    let made = composed(alloc, &outer, &inner, &array, &three);
+    assert_eq!(rt; made, Ok([3, 4, 1, 1]));
+    let refused = composed(alloc, &far, &inner, &array, &three);
+    assert_eq!(rt; refused, Err(TilerRefused::Entry(0)));
+    Ok(())
+}
+
+#[test]
+fn tilers_are_made_of_tilers(rt: HostRuntime) -> Result<(), Fail> {
+    let alloc = rt.alloc();
+    let three = shape(alloc, &[3])?;
+    let outer = tiler(alloc, &[1], &[4], &[1])?;
+    let inner = tiler(alloc, &[2], &[1], &[1])?;
+    let in_place = substituted(alloc, &outer, &inner, &three, &three);
+    assert_eq!(rt; in_place, Ok([9, 4, 4, 1]));
+    let in_blocks = blocked(alloc, &outer, &three, &three);
+    assert_eq!(rt; in_blocks, Ok([1, 12, 4, 1]));
     Ok(())
 }
 

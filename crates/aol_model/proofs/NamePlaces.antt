@@ -1,5 +1,5 @@
 -- Places of names, and what stands there.
-use Rattle.std.proofs.Common.{◌≡◌, ℕ, zero, suc, ◌+◌, ◌<◌, nat_eq, nat_lt, List, [], ◌∷◌, ◌++◌, map, length, take, get_or, ◌≤◌, Bool, true, false, cond, ◌||◌, Option, Some, None, is_some, option_map, option_and_then, IfSome, String, Vec, refl, sym, ◌∙◌, ap, subst, arith, add-one}
+use Rattle.std.proofs.Common.{◌≡◌, ℕ, zero, suc, ◌+◌, ◌<◌, nat_eq, nat_lt, List, [], ◌∷◌, ◌++◌, map, length, take, get_or, Bool, true, false, cond, ◌||◌, Option, Some, None, is_some, option_map, option_and_then, IfSome, String, Vec, refl, sym, ◌∙◌, ap, subst, arith, add-one}
 use Rattle.std.specs.List.{find, list_any, slice_get}
 use Rattle.std.specs.Option.{ForSome}
 use Rattle.std.specs.Str.{bytes_eq}

@@ -1,4 +1,4 @@
-use Rattle.std.proofs.Common.{◌≡◌, ◌∙◌, sym, Bool, Some}
+use Rattle.std.proofs.Common.{◌∙◌, sym, Bool, Some}
 use Rattle.aol_model.specs.declared.task.Copied.{Copied}
 use Rattle.aol_model.specs.Names.{part_of_reshape}
 use Rattle.aol_model.specs.Rules.{same_hook}

@@ -72,15 +72,20 @@ fn four_of(made: &Tiler) -> [i32; 4] {
     four
 }
 
+/// A tiler over a line: its origin, its column of paving and its column of fitting.
+fn on_line(alloc: Global, entries: [i32; 3]) -> Result<Tiler, Fail> {
+    let [origin, paving, fitting] = entries;
+    tiler(alloc, &[origin], &[paving], &[fitting])
+}
+
 /// The tiler over the pattern of another, where both fit.
 fn composed(
     alloc: Global,
     outer: &Tiler,
     inner: &Tiler,
-    array: &Shape,
     line: &Shape,
 ) -> Result<[i32; 4], TilerRefused> {
-    if !outer.fits(array, line, line) {
+    if !outer.fits(line, line, line) {
         return Err(TilerRefused::NoMemory);
     }
     if !inner.fits(line, line, line) {
@@ -98,10 +103,9 @@ fn substituted(
     alloc: Global,
     outer: &Tiler,
     by: &Tiler,
-    array: &Shape,
     line: &Shape,
 ) -> Result<[i32; 4], TilerRefused> {
-    if !outer.fits(array, line, line) {
+    if !outer.fits(line, line, line) {
         return Err(TilerRefused::NoMemory);
     }
     if !by.fits(line, line, line) {
@@ -115,13 +119,8 @@ fn substituted(
 }
 
 /// The tiler in blocks, where it fits.
-fn blocked(
-    alloc: Global,
-    tiler: &Tiler,
-    array: &Shape,
-    line: &Shape,
-) -> Result<[i32; 4], TilerRefused> {
-    if !tiler.fits(array, line, line) {
+fn blocked(alloc: Global, tiler: &Tiler, line: &Shape) -> Result<[i32; 4], TilerRefused> {
+    if !tiler.fits(line, line, line) {
         return Err(TilerRefused::NoMemory);
     }
     if line.as_slice().len() != 1 {
@@ -129,6 +128,47 @@ fn blocked(
     }
     let made = tiler.blocked(alloc, line)?;
     Ok(four_of(&made))
+}
+
+/// What two tilers over lines of three make: composed, substituted, and the first in blocks of three.
+fn made_of(
+    alloc: Global,
+    outer: [i32; 3],
+    inner: [i32; 3],
+) -> Result<[Result<[i32; 4], TilerRefused>; 3], Fail> {
+    let line = shape(alloc, &[3])?;
+    let outer = on_line(alloc, outer)?;
+    let inner = on_line(alloc, inner)?;
+    Ok([
+        composed(alloc, &outer, &inner, &line),
+        substituted(alloc, &outer, &inner, &line),
+        blocked(alloc, &outer, &line),
+    ])
+}
+
+/// What a walker gives in five steps, where the tiler fits.
+fn walked(
+    tiler: &Tiler,
+    array: &Shape,
+    space: &Shape,
+    pattern: &Shape,
+) -> Option<[Option<u32>; 5]> {
+    if !tiler.fits(array, space, pattern) {
+        return None;
+    }
+    let mut walker = Walker::start(tiler, array, space, pattern);
+    let (first, second) = (walker.next(), walker.next());
+    let (third, fourth) = (walker.next(), walker.next());
+    Some([first, second, third, fourth, walker.next()])
+}
+
+/// The walk over a plane with one repetition of three elements.
+fn walked_on_plane(alloc: Global) -> Result<Option<[Option<u32>; 5]>, Fail> {
+    let array = shape(alloc, &[5, 3])?;
+    let space = shape(alloc, &[1])?;
+    let pattern = shape(alloc, &[3])?;
+    let plane = tiler(alloc, &[7, -1], &[2, 4], &[-6, 10])?;
+    Ok(walked(&plane, &array, &space, &pattern))
 }
 
 /// The same of a tiler and an array by their entries.
@@ -166,30 +206,14 @@ fn addresses_wrap(rt: HostRuntime) -> Result<(), Fail> {
 }
 
 #[test]
-fn tilers_compose(rt: HostRuntime) -> Result<(), Fail> {
-    let alloc = rt.alloc();
-    let array = shape(alloc, &[9])?;
-    let three = shape(alloc, &[3])?;
-    let outer = tiler(alloc, &[1], &[4], &[1])?;
-    let far = tiler(alloc, &[1], &[4], &[2147483647])?;
-    let inner = tiler(alloc, &[2], &[1], &[1])?;
-    let made = composed(alloc, &outer, &inner, &array, &three);
-    assert_eq!(rt; made, Ok([3, 4, 1, 1]));
-    let refused = composed(alloc, &far, &inner, &array, &three);
-    assert_eq!(rt; refused, Err(TilerRefused::Entry(0)));
-    Ok(())
-}
-
-#[test]
 fn tilers_are_made_of_tilers(rt: HostRuntime) -> Result<(), Fail> {
     let alloc = rt.alloc();
-    let three = shape(alloc, &[3])?;
-    let outer = tiler(alloc, &[1], &[4], &[1])?;
-    let inner = tiler(alloc, &[2], &[1], &[1])?;
-    let in_place = substituted(alloc, &outer, &inner, &three, &three);
-    assert_eq!(rt; in_place, Ok([9, 4, 4, 1]));
-    let in_blocks = blocked(alloc, &outer, &three, &three);
-    assert_eq!(rt; in_blocks, Ok([1, 12, 4, 1]));
+    let [composed, substituted, blocked] = made_of(alloc, [1, 4, 1], [2, 1, 1])?;
+    assert_eq!(rt; composed, Ok([3, 4, 1, 1]));
+    assert_eq!(rt; substituted, Ok([9, 4, 4, 1]));
+    assert_eq!(rt; blocked, Ok([1, 12, 4, 1]));
+    let [refused, _, _] = made_of(alloc, [1, 4, 2147483647], [2, 1, 1])?;
+    assert_eq!(rt; refused, Err(TilerRefused::Entry(0)));
     Ok(())
 }
 
@@ -207,19 +231,7 @@ fn both_shapes_joined_have_a_tiler(rt: HostRuntime) -> Result<(), Fail> {
 
 #[test]
 fn walkers_go_pair_by_pair(rt: HostRuntime) -> Result<(), Fail> {
-    let alloc = rt.alloc();
-    let plane = tiler(alloc, &[7, -1], &[2, 4], &[-6, 10])?;
-    let (array, space, pattern) = (
-        shape(alloc, &[5, 3])?,
-        shape(alloc, &[1])?,
-        shape(alloc, &[3])?,
-    );
-    assert!(rt; plane.fits(&array, &space, &pattern));
-    if plane.fits(&array, &space, &pattern) {
-        let mut walker = Walker::start(&plane, &array, &space, &pattern);
-        for want in [Some(8), Some(3), Some(1), None, None] {
-            assert_eq!(rt; walker.next(), want);
-        }
-    }
+    let walked = walked_on_plane(rt.alloc())?;
+    assert_eq!(rt; walked, Some([Some(8), Some(3), Some(1), None, None]));
     Ok(())
 }

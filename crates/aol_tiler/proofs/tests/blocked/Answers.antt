@@ -6,4 +6,4 @@ use Rattle.aol_tiler.proofs.tests.blocked.Goals as goal
 pub blocked-requires : goal.blocked-requires
 blocked-requires c =
     let one : length c.args.line.now ≡ 1 = sym (ap length c.as_slice.ensures.entries) ∙ c.if-as_slice-ne1.false in
-    blockable_line c.args.tiler.now c.args.array.now c.args.line.now (sym c.fits.ensures ∙ c.if-not-fits.false) one
+    blockable_line c.args.tiler.now c.args.line.now c.args.line.now (sym c.fits.ensures ∙ c.if-not-fits.false) one

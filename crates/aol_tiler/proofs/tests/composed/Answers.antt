@@ -6,4 +6,4 @@ use Rattle.aol_tiler.proofs.tests.composed.Goals as goal
 pub compose-requires : goal.compose-requires
 compose-requires c =
     let one : length c.args.line.now ≡ 1 = sym (ap length c.as_slice.ensures.entries) ∙ c.if-as_slice-ne1.false in
-    composable_line c.args.outer.now c.args.array.now c.args.line.now (sym c.fits.ensures ∙ c.if-not-fits.false) one c.args.inner.now (sym c.fits-2.ensures ∙ c.if-not-fits-2.false)
+    composable_line c.args.outer.now c.args.line.now c.args.line.now (sym c.fits.ensures ∙ c.if-not-fits.false) one c.args.inner.now (sym c.fits-2.ensures ∙ c.if-not-fits-2.false)

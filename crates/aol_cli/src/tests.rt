@@ -18,7 +18,30 @@ const SQUARE: &str =
 const ONES: &str =
     r#"{"allocate":[],"input":{},"model":{"main":"Ones","tasks":[{"in":[],"kind":"elementary","name":"Ones","out":[{"expr":"sum(k,1048576,1)","name":"y","shape":"{4095}"}]}]},"transform":[],"version":2}"#;
 
-/// The status of a call with these words, which have blanks between them, and its sink, which takes 5 bytes at a time.
+/// The words between blanks.
+fn words_of(alloc: Global, words: &str) -> Result<Vec<String>, Fail> {
+    let mut given = Vec::new(alloc);
+    for word in words.split_whitespace() {
+        given.push(String::from_str(alloc, word)?)?;
+    }
+    Ok(given)
+}
+
+/// A source of these bytes, which fails at one call.
+fn source_of(alloc: Global, bytes: &[u8], failing: u32) -> Result<MemSource, Fail> {
+    let bytes = Items::from_slice(alloc, bytes)?;
+    let failing = Items::from_slice(alloc, &[failing])?;
+    Ok(MemSource::new(bytes, 4096, failing).ok_or("no source")?)
+}
+
+/// A sink that takes 5 bytes at a time, and fails at one call.
+fn sink_of(alloc: Global, failing: u32) -> Result<MemSink, Fail> {
+    let room = Items::from_vec(vec![in alloc; 0u8; 8192]?);
+    let failing = Items::from_slice(alloc, &[failing])?;
+    Ok(MemSink::new(room, 5, failing).ok_or("no sink")?)
+}
+
+/// The status of a call with these words, which have blanks between them, and its sink.
 fn called(
     alloc: Global,
     words: &str,
@@ -26,16 +49,9 @@ fn called(
     failing_read: u32,
     failing_write: u32,
 ) -> Result<(u8, MemSink), Fail> {
-    let mut given = Vec::new(alloc);
-    for word in words.split_whitespace() {
-        given.push(String::from_str(alloc, word)?)?;
-    }
-    let bytes = Items::from_slice(alloc, bytes)?;
-    let failing = Items::from_slice(alloc, &[failing_read])?;
-    let mut source = MemSource::new(bytes, 4096, failing).ok_or("no source")?;
-    let room = Items::from_vec(vec![in alloc; 0u8; 8192]?);
-    let failing = Items::from_slice(alloc, &[failing_write])?;
-    let mut sink = MemSink::new(room, 5, failing).ok_or("no sink")?;
+    let mut sink = sink_of(alloc, failing_write)?;
+    let mut source = source_of(alloc, bytes, failing_read)?;
+    let given = words_of(alloc, words)?;
     let status = aol(alloc, given.as_slice(), &mut source, &mut sink).code;
     Ok((status, sink))
 }
@@ -87,9 +103,24 @@ fn documents_are_printed(rt: HostRuntime) -> Result<(), Fail> {
     Ok(())
 }
 
+/// The status and the line that a call answers for the document with this part of it changed to another.
+fn answer_of(
+    alloc: Global,
+    document: &str,
+    old: &str,
+    new: &str,
+    words: &str,
+) -> Result<(u8, String), Fail> {
+    let text = changed(alloc, document, old, new)?;
+    let (code, sink) = called(alloc, words, text.as_bytes(), 0, 0)?;
+    let line = from_utf8(sink.bytes())?
+        .strip_suffix("\n")
+        .ok_or("no line")?;
+    Ok((code, String::from_str(alloc, line)?))
+}
+
 #[test]
-fn documents_are_answered(rt: HostRuntime) -> Result<(), Fail> {
-    let alloc = rt.alloc();
+fn canonical_texts_and_runs(rt: HostRuntime) -> Result<(), Fail> {
     // the document, a part of it, and what stands in its place; the words; the status and the line
     let cases = [
         (ADD, r#","version":2"#, "", "print", 0, ADD),
@@ -112,6 +143,20 @@ fn documents_are_answered(rt: HostRuntime) -> Result<(), Fail> {
             "s {} 32761",
         ),
         (ADD, "", "", "run 1", 0, "y {2,2} 11 22 33 44"),
+        (SQUARE, "", "", "run 1", 0, "s {} 32761"),
+    ];
+    for (document, old, new, words, status, written) in cases {
+        let (code, line) = answer_of(rt.alloc(), document, old, new, words)?;
+        assert_eq!(rt; line.as_str(), written);
+        assert_eq!(rt; code, status);
+    }
+    Ok(())
+}
+
+#[test]
+fn places_of_texts_and_keys(rt: HostRuntime) -> Result<(), Fail> {
+    // the document, a part of it, and what stands in its place; the words; the status and the line
+    let cases = [
         (
             ADD,
             r#""{2,2}"}]}]"#,
@@ -168,6 +213,19 @@ fn documents_are_answered(rt: HostRuntime) -> Result<(), Fail> {
             7,
             "grammar $.input[0][1]",
         ),
+    ];
+    for (document, old, new, words, status, written) in cases {
+        let (code, line) = answer_of(rt.alloc(), document, old, new, words)?;
+        assert_eq!(rt; line.as_str(), written);
+        assert_eq!(rt; code, status);
+    }
+    Ok(())
+}
+
+#[test]
+fn rules_and_what_is_unbuilt(rt: HostRuntime) -> Result<(), Fail> {
+    // the document, a part of it, and what stands in its place; the words; the status and the line
+    let cases = [
         (
             ADD,
             "a{$0,$1}+b{$0,$1}",
@@ -217,6 +275,19 @@ fn documents_are_answered(rt: HostRuntime) -> Result<(), Fail> {
             17,
             "unbuilt",
         ),
+    ];
+    for (document, old, new, words, status, written) in cases {
+        let (code, line) = answer_of(rt.alloc(), document, old, new, words)?;
+        assert_eq!(rt; line.as_str(), written);
+        assert_eq!(rt; code, status);
+    }
+    Ok(())
+}
+
+#[test]
+fn inputs_and_faults(rt: HostRuntime) -> Result<(), Fail> {
+    // the document, a part of it, and what stands in its place; the words; the status and the line
+    let cases = [
         (
             ADD,
             r#","b":[10,20,30,40]"#,
@@ -251,14 +322,12 @@ fn documents_are_answered(rt: HostRuntime) -> Result<(), Fail> {
             16,
             "fault divide Add y {1,0}",
         ),
-        (SQUARE, "", "", "run 1", 0, "s {} 32761"),
         (SQUARE, "181", "182", "run 1", 16, "fault range Sq16 s {}"),
         (SQUARE, "181", "32768", "run 1", 16, "fault range Sq16 s {}"),
     ];
     for (document, old, new, words, status, written) in cases {
-        let text = changed(alloc, document, old, new)?;
-        let (code, sink) = called(alloc, words, text.as_bytes(), 0, 0)?;
-        assert_eq!(rt; from_utf8(sink.bytes())?.strip_suffix("\n"), Some(written));
+        let (code, line) = answer_of(rt.alloc(), document, old, new, words)?;
+        assert_eq!(rt; line.as_str(), written);
         assert_eq!(rt; code, status);
     }
     Ok(())

@@ -1,25 +1,19 @@
 -- What the rules give of an elementary main task, and what inputs that aren't wrong give.
-use Rattle.std.proofs.Common.{◌≡◌, ℕ, ◌+◌, Bool, true, false, cond, List, [], ◌∷◌, ◌++◌, length, Option, Some, None, find, option_map, unwrap_or, subst, ◌==◌, codes, sym, ◌∙◌, ap, refl, eqb-true}
+use Rattle.std.proofs.Common.{◌≡◌, ℕ, Bool, true, false, cond, List, [], ◌∷◌, length, Option, Some, None, find, option_map, unwrap_or, subst, ◌==◌, codes, sym, ◌∙◌, ap, refl, eqb-true}
 use Rattle.std.specs.List.{AllByRecursion}
 use Rattle.aol_shape.specs.Lists.{same, or_else}
 use Rattle.aol_shape.specs.Shape.{size}
-use Rattle.aol_expr.specs.declared.port.Port.{Port}
-use Rattle.aol_model.specs.declared.place.PlaceStep.{PlaceStep}
-use Rattle.aol_model.specs.declared.place.Key.TheVariants.{KIn, KOut}
-use Rattle.aol_model.specs.declared.document.Model.{Model}
-use Rattle.aol_model.specs.declared.job.InputArray.{InputArray}
-use Rattle.aol_model.specs.declared.task.Elementary.{Elementary}
-use Rattle.aol_model.specs.declared.task.OutPort.{OutPort}
-use Rattle.aol_model.specs.declared.task.Task.{Task}
-use Rattle.aol_model.specs.declared.task.Task.TheVariants as tasks
-use Rattle.aol_model.specs.Places.{to_key, to_index}
-use Rattle.aol_model.specs.Rules.{task_name, inputs_of, ShapesAgree, each, each_from, port_checks, output_checks, is_new_port, has_names}
-use Rattle.aol_model.specs.Types.{IsTask, IsElementary, IsModel}
+use Rattle.aol_expr_tree.specs.declared.port.Port.{Port}
+use Rattle.aol_model_types.specs.declared.document.Model.{Model}
+use Rattle.aol_model_types.specs.declared.job.InputArray.{InputArray}
+use Rattle.aol_model_types.specs.declared.task.Elementary.{Elementary}
+use Rattle.aol_model_types.specs.declared.task.Task.{Task}
+use Rattle.aol_model_types.specs.declared.task.Task.TheVariants as tasks
+use Rattle.aol_model_types.specs.Rules.{task_name, inputs_of}
+use Rattle.aol_model_types.specs.Types.{IsTask, IsElementary, IsModel}
 use Rattle.aol_flat.specs.Tasks.{main_task, main_inputs}
 use Rattle.aol_flat.specs.Inputs.{numbers_named, IsGivenFor, InputsFit}
-use Rattle.aol_flat.proofs.Different.{Hold, hold-parts, main_checked}
-use Rattle.aol_flat.proofs.Names.{both-true}
-use Rattle.aol_cli.specs.Inputs.{Unfit, is_given, first_unfit, first_unknown, first_wrong_input}
+use Rattle.aol_cli.specs.Inputs.{is_given, first_unfit, first_unknown, first_wrong_input}
 
 ports-fit : (inputs : List InputArray) (ports : List Port) → first_unfit inputs ports ≡ None → AllByRecursion (IsGivenFor inputs) ports
 ports-fit inputs [] h = tt

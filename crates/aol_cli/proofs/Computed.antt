@@ -1,13 +1,13 @@
 -- Values that are computed point after point.
-use Rattle.std.proofs.Common.{◌≡◌, ℕ, zero, suc, ◌+◌, ◌<◌, ◌≤◌, List, [], ◌∷◌, ◌++◌, map, flat_map, length, take, replicate, Option, Some, None, refl, sym, ◌∙◌, ap, subst, arith, append_assoc, append-nil, ◌/◌, ◌-◌, Bool, true, false}
+use Rattle.std.proofs.Common.{◌≡◌, ℕ, zero, suc, ◌+◌, ◌<◌, ◌≤◌, List, [], ◌∷◌, ◌++◌, map, flat_map, length, take, replicate, Some, None, refl, sym, ◌∙◌, ap, arith, append_assoc, append-nil, ◌/◌, ◌-◌, Bool, true, false}
 use Rattle.std.specs.Bool.{OnTrue}
 use Rattle.std.proofs.Math.Nat.{zero-div, zero-mod}
 use Rattle.std.proofs.lemmas.List.{map-append}
 use Rattle.aol_shape.specs.Lists.{numbers_from, numbers_below}
 use Rattle.aol_shape.specs.Shape.{size, points, point_at}
-use Rattle.aol_expr.specs.declared.value.Site.{Site}
-use Rattle.aol_expr.specs.declared.value.Val.{Val}
-use Rattle.aol_expr.specs.declared.value.Val.TheVariants.{Num, Bad}
+use Rattle.aol_expr_tree.specs.declared.value.Site.{Site}
+use Rattle.aol_expr_tree.specs.declared.value.Val.{Val}
+use Rattle.aol_expr_tree.specs.declared.value.Val.TheVariants.{Num, Bad}
 use Rattle.aol_flat.specs.InstanceValue.{first_fault}
 use Rattle.aol_flat.specs.Printed.{value_text}
 
@@ -32,8 +32,8 @@ first_fault-append [] ws h = refl
 first_fault-append (Num z ∷ vs) ws h = first_fault-append vs ws h
 first_fault-append (Bad s ∷ vs) ws h = cc
 
-pub first_fault_behind : (vs ws : List Val) → None ≡ first_fault vs → first_fault (vs ++ ws) ≡ first_fault ws
-first_fault_behind vs ws h = first_fault-append vs ws (sym h)
+pub first_fault_after : (vs ws : List Val) → None ≡ first_fault vs → first_fault (vs ++ ws) ≡ first_fault ws
+first_fault_after vs ws h = first_fault-append vs ws (sym h)
 
 pub first_fault_front : (vs ws : List Val) (s : Site) → Some s ≡ first_fault vs → Some s ≡ first_fault (vs ++ ws)
 first_fault_front [] ws s h = cc
@@ -52,8 +52,8 @@ pub first_point : (shape : List ℕ) (n : ℕ) → length shape ≤ n → take (
 first_point [] n h = refl
 first_point (e ∷ shape) zero h = absurd (omega (arith, h))
 first_point (e ∷ shape) (suc n) h =
-    let behind : take (length shape) (replicate n 0) ≡ point_at shape 0 = first_point shape n (omega (arith, h)) in
-    ap (λ ns. 0 ∷ ns) behind ∙ ap (λ j. j ∷ point_at shape 0) (sym (zero-div (size shape))) ∙ ap (λ j. 0 / size shape ∷ point_at shape j) (sym (zero-mod (size shape)))
+    let others : take (length shape) (replicate n 0) ≡ point_at shape 0 = first_point shape n (omega (arith, h)) in
+    ap (λ ns. 0 ∷ ns) others ∙ ap (λ j. j ∷ point_at shape 0) (sym (zero-div (size shape))) ∙ ap (λ j. 0 / size shape ∷ point_at shape j) (sym (zero-mod (size shape)))
 
 module _ (f : List ℕ → Val) (shape : List ℕ) where
   -- the values at the points with a rank below x
@@ -67,7 +67,7 @@ module _ (f : List ℕ → Val) (shape : List ℕ) where
   pub values_below-all : values_below (size shape) ≡ map f (points shape)
   values_below-all = sym (map-map f (point_at shape) (numbers_below (size shape)))
 
-  -- no fault among them, and they have been printed behind a text
+  -- no fault among them, and they have been printed after a text
   pub record Printed (before text : List ℕ) (x : ℕ) : Type 0 where
     pub faultless : first_fault (values_below x) ≡ None
     pub shown : text ≡ before ++ flat_map value_text (values_below x)

@@ -1,8 +1,9 @@
 pub mod Commands
 pub mod Computed
 pub mod SiteFacts
-pub mod SameTexts
 pub mod RunReplies
 pub mod Checked
 pub mod Replies
+pub mod LineWords
+pub mod OneNode
 pub mod OneReply

@@ -1,9 +1,9 @@
 -- Where a site's port stands in the list of outputs.
-use Rattle.std.proofs.Common.{◌≡◌, ℕ, zero, suc, ◌+◌, ◌<◌, List, [], ◌∷◌, Option, Some, None, slice_get, ◌⊎◌, inl, inr, refl, sym, ◌∙◌, ap, subst, arith}
+use Rattle.std.proofs.Common.{◌≡◌, ℕ, suc, ◌+◌, ◌<◌, List, [], ◌∷◌, Some, slice_get, inl, inr, refl, ◌∙◌, ap, arith}
 use Rattle.aol_shape.specs.Shape.{size}
-use Rattle.aol_expr.specs.declared.value.Site.{Site}
-use Rattle.aol_model.specs.declared.task.OutPort.{OutPort}
-use Rattle.aol_cli.specs.Outputs.{IsSiteAt, IsSiteFrom}
+use Rattle.aol_expr_tree.specs.declared.value.Site.{Site}
+use Rattle.aol_model_types.specs.declared.task.OutPort.{OutPort}
+use Rattle.aol_cli.specs.Outputs.{IsSiteFrom}
 
 -- the port that a site names, and that its point is one of it
 pub record Names (task k : ℕ) (outs : List OutPort) (s : Site) : Type 0 where

@@ -1,11 +1,11 @@
 -- Inputs that aren't those of the main task.
-use Rattle.std.specs.Prelude.{ℕ, List, [], ◌∷◌, length, Bool, ◌==◌, Option, Some, None, option_map, codes, if◌then◌else◌}
+use Rattle.std.specs.Prelude.{ℕ, List, [], ◌∷◌, length, Bool, ◌==◌, Option, Some, None, codes, if◌then◌else◌}
 use Rattle.std.specs.List.{list_any}
 use Rattle.aol_shape.specs.Lists.{same, or_else}
 use Rattle.aol_shape.specs.Shape.{size}
-use Rattle.aol_expr.specs.declared.port.Port.{Port}
-use Rattle.aol_model.specs.declared.document.Model.{Model}
-use Rattle.aol_model.specs.declared.job.InputArray.{InputArray}
+use Rattle.aol_expr_tree.specs.declared.port.Port.{Port}
+use Rattle.aol_model_types.specs.declared.document.Model.{Model}
+use Rattle.aol_model_types.specs.declared.job.InputArray.{InputArray}
 use Rattle.aol_flat.specs.Tasks.{main_inputs}
 use Rattle.aol_flat.specs.Inputs.{numbers_named}
 

@@ -1,10 +1,12 @@
 pub mod Words
+pub mod Status
 pub mod Reply
+pub mod Line
 pub mod Inputs
 pub mod Lent
 pub mod Run
 pub mod Outputs
-pub mod Faults
+pub mod Fault
 pub mod Answer
 pub mod Answered
 pub mod OneReply

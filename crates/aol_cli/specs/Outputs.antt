@@ -1,20 +1,20 @@
 -- The outputs of an elementary task by the numbers of its inputs, in the order in which they are computed.
-use Rattle.std.specs.Prelude.{◌≡◌, ℕ, ◌+◌, ◌<◌, ◌⊎◌, [], ◌∷◌, Option, ℤ, List, map, flat_map, filter, length, true, Some, None, Result, Ok, Err, String, string_bytes}
+use Rattle.std.specs.Prelude.{◌≡◌, ℕ, ◌+◌, ◌<◌, ◌⊎◌, [], ◌∷◌, Option, ℤ, List, map, flat_map, filter, Some, None, Result, Ok, Err, String, string_bytes}
 use Rattle.std.specs.declared.alloc.Global.{Global}
 use Rattle.std.specs.List.{enumerate_from, position_or_len}
 use Rattle.aol_shape.specs.Shape.{points, size}
-use Rattle.aol_expr.specs.declared.port.Port.{Port}
-use Rattle.aol_expr.specs.declared.value.Site.{Site}
-use Rattle.aol_expr.specs.declared.value.Val.{Val}
-use Rattle.aol_expr.specs.declared.value.Val.TheVariants.{Num, Bad}
-use Rattle.aol_expr.specs.declared.resolution.Resolved.{Resolved}
-use Rattle.aol_expr.specs.Computed.{computed as computed_by}
-use Rattle.aol_expr.specs.Meaning.{value}
-use Rattle.aol_expr.specs.Tree.{Tree}
-use Rattle.aol_model.specs.declared.task.Elementary.{Elementary}
-use Rattle.aol_model.specs.declared.task.OutPort.{OutPort}
-use Rattle.aol_model.specs.declared.task.Task.{Task}
-use Rattle.aol_model.specs.Rules.{task_name}
+use Rattle.aol_expr_tree.specs.declared.port.Port.{Port}
+use Rattle.aol_expr_tree.specs.declared.value.Site.{Site}
+use Rattle.aol_expr_tree.specs.declared.value.Val.{Val}
+use Rattle.aol_expr_tree.specs.declared.value.Val.TheVariants.{Num, Bad}
+use Rattle.aol_eval.specs.declared.resolution.Resolved.{Resolved}
+use Rattle.aol_eval.specs.Computed.{computed as computed_by}
+use Rattle.aol_expr_tree.specs.Meaning.{value}
+use Rattle.aol_expr_tree.specs.Tree.{Tree}
+use Rattle.aol_model_types.specs.declared.task.Elementary.{Elementary}
+use Rattle.aol_model_types.specs.declared.task.OutPort.{OutPort}
+use Rattle.aol_model_types.specs.declared.task.Task.{Task}
+use Rattle.aol_model_types.specs.Rules.{task_name}
 use Rattle.aol_shape.specs.Lists.{same}
 use Rattle.aol_flat.specs.Tasks.{is_elementary}
 use Rattle.aol_flat.specs.InstanceValue.{computed, first_fault}

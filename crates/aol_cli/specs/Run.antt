@@ -1,17 +1,18 @@
 -- What a run prints.
 use Rattle.std.specs.Prelude.{◌≡◌, List, Option, Some, None}
-use Rattle.aol_expr.specs.declared.value.Site.{Site}
-use Rattle.aol_model.specs.declared.document.Model.{Model}
-use Rattle.aol_model.specs.declared.job.InputArray.{InputArray}
+use Rattle.aol_expr_tree.specs.declared.value.Site.{Site}
+use Rattle.aol_model_types.specs.declared.document.Model.{Model}
+use Rattle.aol_model_types.specs.declared.job.InputArray.{InputArray}
 use Rattle.aol_flat.specs.InstanceValue.{first_fault}
 use Rattle.aol_flat.specs.Equation.{Valuation, IsSolution}
 use Rattle.aol_flat.specs.Printed.{output_lines, main_values, fault_line}
+use Rattle.aol_cli.specs.declared.status.StatusKind.TheVariants.{Done, Fault}
 use Rattle.aol_cli.specs.Reply.{ReplyOf, reply}
 
 -- the line of the first fault, where there is one; else the lines of the main outputs
 abbrev pub fault_or_lines : Model → Valuation → Option Site → ReplyOf
-fault_or_lines m v (Some s) = reply 16 (fault_line m s)
-fault_or_lines m v None = reply 0 (output_lines m v)
+fault_or_lines m v (Some s) = reply Fault (fault_line m s)
+fault_or_lines m v None = reply Done (output_lines m v)
 
 -- what a solution prints: its first fault among the main outputs, by port and rank, or all of them
 abbrev pub run_reply : Model → Valuation → ReplyOf

@@ -5,9 +5,9 @@ ghost use Rattle.aol_cli.specs.Inputs.{is_given, is_asked, first_unfit, first_un
 ghost use Rattle.aol_cli.specs.Lent.{lent_pair};
 
 use crate::run::numbers_named;
-use crate::text::is_same;
 use aol_expr::Port;
 use aol_model::InputArray;
+use aol_shape::is_same;
 
 /// Whether an array has the name.
 fn is_given(inputs: &[InputArray], name: &str) -> bool

@@ -1,13 +1,15 @@
 //! The limits of a model whose one node is an elementary task.
 
-ghost use Rattle.std.specs.Prelude.{◌≡◌, ◌+◌, ◌*◌, ◌≤◌, ◌<◌, ◌^◌, length, sum_by};
+ghost use Rattle.std.specs.Prelude.{◌≡◌, ◌*◌, ◌≤◌, ◌<◌, ◌^◌, length, sum_by};
 ghost use Rattle.aol_shape.specs.Shape.{size};
-ghost use Rattle.aol_expr.specs.Tree.{work};
-ghost use Rattle.aol_expr.specs.declared.port.Port.{Port as PortOf};
-ghost use Rattle.aol_model.specs.declared.task.OutPort.{OutPort as OutPortOf};
-ghost use Rattle.aol_cli.specs.Answer.{walk_of, work_of, limit_of};
+ghost use Rattle.aol_expr_tree.specs.Tree.{work};
+ghost use Rattle.aol_expr_tree.specs.declared.port.Port.{Port as PortOf};
+ghost use Rattle.aol_model_types.specs.declared.task.OutPort.{OutPort as OutPortOf};
+ghost use Rattle.aol_model_types.specs.declared.task.Task.TheVariants.{Elementary as ElementaryTask};
+ghost use Rattle.aol_flat.specs.Limits.{own_walk, own_work, passed};
 
 use aol_expr::{Port, work};
+use aol_flat::limits::{MAX_WALK, MAX_WORK};
 use aol_model::{Elementary, OutPort};
 use aol_shape::LimitName;
 
@@ -49,16 +51,16 @@ fn work_out(outs: &[OutPort]) -> u128
     all
 }
 
-/// The limit that a model with this one node passes: of point instances, or else of work.
+/// The limit that a model with this one node passes: of elements, or else of work.
 pub fn limit_of(task: &Elementary) -> Option<LimitName>
     requires ins { length task.now.ins < 2 ^ 32 }
     requires outs { length task.now.outs < 2 ^ 32 }
-    ensures { result ≡ limit_of task.now }
+    ensures { let t = ElementaryTask task.now in result ≡ passed 1 1 (own_walk t) (own_work t) }
 {
-    if points_in(task.ins.as_slice()) + points_out(task.outs.as_slice()) > 16_777_216 {
+    if points_in(task.ins.as_slice()) + points_out(task.outs.as_slice()) > MAX_WALK {
         return Some(LimitName::Walk);
     }
-    if work_out(task.outs.as_slice()) > 4_294_967_296 {
+    if work_out(task.outs.as_slice()) > u128::from(MAX_WORK) {
         return Some(LimitName::Work);
     }
     None

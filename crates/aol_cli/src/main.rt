@@ -5,21 +5,24 @@
 #![tactic(auto)]
 
 mod answer;
-mod faults;
+mod fault;
 mod inputs;
 mod laws;
 mod limits;
+mod line;
 mod outputs;
 mod print;
 mod program;
 mod reply;
 mod run;
+mod status;
 #[cfg(test)]
 mod tests;
 mod text;
 mod words;
 
 use aol_io::{StdSink, StdSource};
+use status::StatusKind;
 use std::env;
 use std::io::{self, ErrorKind};
 use std::process::ExitCode;
@@ -27,11 +30,13 @@ use std::process::ExitCode;
 fn main(rt: HostRuntime) -> ExitCode {
     let words = match env::args(&rt) {
         Ok(args) => args.skip(1).collect(rt.alloc()),
-        Err(fault) if fault.kind() == ErrorKind::OutOfMemory => return ExitCode::from(4),
+        Err(fault) if fault.kind() == ErrorKind::OutOfMemory => return ExitCode::from(
+            StatusKind::Memory.code(),
+        ),
         Err(_) => Ok(Vec::new(rt.alloc())),
     };
     let Ok(words) = words else {
-        return ExitCode::from(4);
+        return ExitCode::from(StatusKind::Memory.code());
     };
     let mut source = StdSource::new(rt.reader());
     let mut sink = StdSink::new(io::writer(&rt));

@@ -11,7 +11,7 @@ use crate::text::{push_integer, push_shape, push_text};
 use aol_expr::{Kind, Resolved, Site, Val, Width};
 use aol_flat::{inputs_hold, output_value};
 use aol_model::{Elementary, OutPort};
-use aol_shape::{NoMemory, next_point};
+use aol_shape::{MAX_RANK, NoMemory, next_point};
 use std::alloc::Global;
 
 /// The element at a point, with rank `x`, of output port `k`; `held` says whether the widths of the inputs hold their numbers.
@@ -44,7 +44,7 @@ fn element(
     output_value(value, width, number, k, x)
 }
 
-/// Adds the values of output port `k`, each behind a blank; the site of the first fault where there is one.
+/// Adds the values of output port `k`, each after a blank; the site of the first fault where there is one.
 fn push_port(
     alloc: Global,
     text: &mut String,
@@ -62,7 +62,7 @@ fn push_port(
 {
     let expr = Resolved::of(alloc, &out.expr, &task.ins)?;
     let shape = &out.port.shape;
-    let mut indices = [0u32; 12];
+    let mut indices = [0u32; MAX_RANK];
     let rank = shape.as_slice().len();
     let point = &mut indices[..rank];
     for x in 0..shape.size() {
@@ -79,7 +79,7 @@ fn push_port(
 }
 
 /// Adds the lines of the outputs from number `k` on; the site of the first fault where there is one.
-#[tactic(auto, using(crate::proofs::Computed::first_fault_behind, crate::proofs::Computed::first_fault_front))]
+#[tactic(auto, using(crate::proofs::Computed::first_fault_after, crate::proofs::Computed::first_fault_front))]
 fn push_outputs(
     alloc: Global,
     text: &mut String,

@@ -1,13 +1,15 @@
 //! The document itself.
 
-ghost use Rattle.std.specs.Prelude.{◌≡◌, ◌∷◌, [], string_bytes, IfOk};
+ghost use Rattle.std.specs.Prelude.{◌≡◌, IfOk};
 ghost use Rattle.serde_json.specs.Written.{compact_text};
-ghost use Rattle.aol_model.specs.Readable.{IsReadable};
-ghost use Rattle.aol_model.specs.Types.{IsDocument};
-ghost use Rattle.aol_model.specs.Writing.{document_tree};
-ghost use Rattle.aol_cli.specs.Reply.{line};
+ghost use Rattle.aol_shape.specs.Lines.{line};
+ghost use Rattle.aol_model_types.specs.Readable.{IsReadable};
+ghost use Rattle.aol_model_types.specs.Types.{IsDocument};
+ghost use Rattle.aol_model_types.specs.Writing.{document_tree};
+ghost use Rattle.aol_cli.specs.Reply.{reply, reply_of};
 
 use crate::reply::Reply;
+use crate::status::StatusKind;
 use crate::text::push_text;
 use aol_model::{Document, value_of};
 use aol_shape::NoMemory;
@@ -17,11 +19,13 @@ use std::alloc::Global;
 pub fn print_reply(alloc: Global, document: &Document) -> Result<Reply, NoMemory>
     requires types { IsDocument document.now.model document.now.job }
     requires readable { IsReadable document.now.model document.now.job }
-    ensures code { IfOk result (λ r. r.code ≡ 0) }
-    ensures text { IfOk result (λ r. string_bytes r.text ≡ line (compact_text (document_tree document.now.model document.now.job) ∷ [])) }
+    ensures { let tree = document_tree document.now.model document.now.job in IfOk result (λ r. reply_of r ≡ reply StatusKind.Done (line (compact_text tree))) }
 {
     let tree = value_of(alloc, &document.model, &document.job)?;
     let mut text = tree.to_string(alloc)?;
     push_text(&mut text, "\n")?;
-    Ok(Reply { code: 0, text })
+    Ok(Reply {
+        status: StatusKind::Done,
+        text,
+    })
 }

@@ -1,14 +1,16 @@
 ghost use Rattle.std.specs.Prelude.{◌≡◌, map, string_bytes};
 ghost use Rattle.aol_cli.specs.Answered.{IsAnswered};
+ghost use Rattle.aol_cli.specs.Status.{code_of};
 
-use crate::answer::answer;
-use crate::reply::{Status, written};
+use crate::answer::text_reply;
+use crate::reply::written;
+use crate::status::{Status, StatusKind};
 use crate::words::Command;
 use aol_io::{ReadRefused, Sink, Source, read_all};
 use std::alloc::Global;
 
 /// The most bytes of a document.
-const MAX_BYTES: u32 = 16_777_216;
+pub const MAX_BYTES: u32 = 16_777_216;
 
 /// Does what the words ask for: reads the source to its end, and writes the whole answer to the sink.
 ///
@@ -25,16 +27,25 @@ pub fn aol<S: Source, K: Sink>(
         (record { before = K.taken sink.old; after = K.taken sink.new; faults_before = K.faults sink.old; faults_after = K.faults sink.new }) result.code }
 {
     let Some(command) = Command::of_words(words) else {
-        return written(sink, 1, b"words\n");
+        return written(sink, StatusKind::Words, b"words\n");
     };
     let bytes = match read_all(alloc, source, MAX_BYTES) {
         Ok(bytes) => bytes,
-        Err(ReadRefused::ReadFault) => return written(sink, 2, b"read\n"),
-        Err(ReadRefused::TooLong) => return written(sink, 5, b"long\n"),
-        Err(ReadRefused::NoMemory) => return Status { code: 4 },
+        Err(ReadRefused::ReadFault) => return written(sink, StatusKind::Read, b"read\n"),
+        Err(ReadRefused::TooLong) => return written(sink, StatusKind::Long, b"long\n"),
+        Err(ReadRefused::NoMemory) => return no_memory(),
     };
-    match answer(alloc, command, bytes.as_slice()) {
-        Ok(reply) => written(sink, reply.code, reply.text.as_bytes()),
-        Err(_) => Status { code: 4 },
+    match text_reply(alloc, command, bytes.as_slice()) {
+        Ok(reply) => written(sink, reply.status, reply.text.as_bytes()),
+        Err(_) => no_memory(),
+    }
+}
+
+/// The status where memory is wanting; nothing is written.
+fn no_memory() -> Status
+    ensures { result.code ≡ code_of StatusKind.Memory }
+{
+    Status {
+        code: StatusKind::Memory.code(),
     }
 }

@@ -1,21 +1,21 @@
 //! A run of a model whose main task is elementary.
 
-ghost use Rattle.std.specs.Prelude.{◌≡◌, ◌<◌, ◌^◌, Some, length, string_bytes, IfOk};
-ghost use Rattle.aol_model.specs.declared.task.Task.TheVariants.{Elementary as ElementaryTask};
-ghost use Rattle.aol_model.specs.Rules.{ShapesAgree};
+ghost use Rattle.std.specs.Prelude.{◌≡◌, ◌<◌, ◌^◌, Some, length, IfOk};
+ghost use Rattle.aol_model_types.specs.declared.task.Task.TheVariants.{Elementary as ElementaryTask};
+ghost use Rattle.aol_model_types.specs.Rules.{ShapesAgree};
 ghost use Rattle.aol_flat.specs.Tasks.{main_task, elementary_number};
 ghost use Rattle.aol_flat.specs.Inputs.{InputsFit, numbers_named, numbers_for};
 ghost use Rattle.aol_cli.specs.Outputs.{elementary_position};
-ghost use Rattle.aol_cli.specs.Reply.{reply};
+ghost use Rattle.aol_cli.specs.Reply.{reply_of};
 ghost use Rattle.aol_cli.specs.Run.{IsRunReply};
 
-use crate::faults::fault_line;
+use crate::fault::fault_reply;
 use crate::outputs::outputs_of;
 use crate::reply::Reply;
-use crate::text::is_same;
+use crate::status::StatusKind;
 use aol_expr::Port;
 use aol_model::{Elementary, InputArray, Model, Task};
-use aol_shape::NoMemory;
+use aol_shape::{NoMemory, is_same};
 use std::alloc::Global;
 
 /// The numbers of the first array that has the name; none where no array has it.
@@ -70,15 +70,15 @@ pub fn run_reply(
     requires fit { InputsFit model.now inputs.now }
     requires outs { length task.now.outs < 2 ^ 32 }
     requires tasks { length model.now.tasks < 2 ^ 32 }
-    ensures { IfOk result (λ r. IsRunReply model.now inputs.now (reply r.code (string_bytes r.text))) }
+    ensures { IfOk result (λ r. IsRunReply model.now inputs.now (reply_of r)) }
 {
     let number = number_of(model.tasks.as_slice(), task.name.as_str());
     let nums = numbers_for(alloc, inputs, task.ins.as_slice())?;
     match outputs_of(alloc, task, number, nums.as_slice())? {
-        Ok(text) => Ok(Reply { code: 0, text }),
-        Err(site) => Ok(Reply {
-            code: 16,
-            text: fault_line(alloc, task, number, site)?,
+        Ok(text) => Ok(Reply {
+            status: StatusKind::Done,
+            text,
         }),
+        Err(site) => fault_reply(alloc, task, number, site),
     }
 }

@@ -87,7 +87,7 @@ fn documents_are_printed(rt: HostRuntime) -> Result<(), Fail> {
         (
             ADD,
             r#""transform":[]"#,
-            r#""transform":[{"block":"{2}","kind":"tile","outer":"{2}","task":"Add"}]"#,
+            r#""transform":[{"block":"{2}","kind":"skew","outer":"{2}","task":"Add"}]"#,
         ),
         (ADD, "+b{$0,$1}", "-(a{1,0}-b{$0,$1})"),
     ];
@@ -261,7 +261,7 @@ fn rules_and_what_is_unbuilt(rt: HostRuntime) -> Result<(), Fail> {
         (
             ADD,
             r#""transform":[]"#,
-            r#""transform":[{"block":"{2}","kind":"tile","outer":"{2}","task":"Add"}]"#,
+            r#""transform":[{"block":"{2}","kind":"skew","outer":"{2}","task":"Add"}]"#,
             "run 1",
             17,
             "unbuilt",

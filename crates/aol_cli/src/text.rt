@@ -2,20 +2,11 @@
 
 ghost use Rattle.std.specs.Prelude.{◌≡◌, ◌++◌, ◌∷◌, map, string_bytes, OnOk};
 ghost use Rattle.std.specs.List.{join_with_byte};
-ghost use Rattle.aol_shape.specs.Lists.{same};
 ghost use Rattle.aol_vsl.specs.Text.{shape_text};
 ghost use Rattle.std.specs.Fmt.{signed_decimal, decimal};
 
 use aol_shape::NoMemory;
 use itoa::Buffer;
-
-/// Whether two texts are the same.
-#[tactic(auto, using(crate::proofs::SameTexts::pointwise_same))]
-pub fn is_same(one: &str, other: &str) -> bool
-    ensures { result ≡ same one.now other.now }
-{
-    one == other
-}
 
 /// Adds a text.
 pub fn push_text(text: &mut String, more: &str) -> Result<(), NoMemory>
@@ -25,7 +16,7 @@ pub fn push_text(text: &mut String, more: &str) -> Result<(), NoMemory>
     Ok(())
 }
 
-/// Adds the digits of a whole number, behind a minus where it is below 0.
+/// Adds the digits of a whole number, after a minus where it is below 0.
 pub fn push_integer(text: &mut String, number: i64) -> Result<(), NoMemory>
     ensures { OnOk result (string_bytes text.new ≡ string_bytes text.old ++ signed_decimal number) }
 {

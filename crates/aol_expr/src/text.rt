@@ -1,13 +1,10 @@
-ghost use Rattle.std.specs.Prelude.{◌≡◌, ◌<◌, ◌^◌, length, IfOk};
-ghost use Rattle.aol_expr.specs.Reading.{expr_reading, ending, answered, finished};
-ghost use Rattle.aol_expr.specs.Answers.{Gives, IsRight};
-ghost use Rattle.aol_expr.specs.Tree.{IsExpr};
-ghost use Rattle.aol_expr.specs.Node.{tree_of};
+ghost use Rattle.std.specs.Prelude.{◌+◌, ◌<◌, ◌^◌, length, IfOk};
+ghost use Rattle.aol_expr_tree.specs.Reading.{expr_reading, reading_from, ending, answered, finished};
+ghost use Rattle.aol_expr_tree.specs.Answers.{Gives, IsRight};
+ghost use Rattle.aol_expr_tree.specs.Tree.{IsExpr};
 
-use crate::expr::{Expr, ExprRefused, expr_of};
-use crate::part::{Part, Small};
-use crate::reader::Reader;
-use crate::spelled::is_spelled;
+use crate::reading::{finish, run, start};
+use aol_expr_tree::{Expr, ExprRefused, Part, Reader, Small, expr_of};
 use aol_shape::{LimitName, NoMemory};
 use std::alloc::Global;
 
@@ -20,37 +17,46 @@ pub fn read_expr(alloc: Global, text: &str) -> Result<Expr, ExprRefused>
     ensures right { IsRight text.now result }
     ensures limits { IfOk result IsExpr }
 {
-    read_bytes(alloc, text)
+    read_within_limits(alloc, text)
 }
 
-/// What reading answers, byte by byte.
-#[tactic(auto, using(crate::proofs::Bytewise::goes_on, crate::proofs::Bytewise::stops, crate::proofs::Bytewise::ends_at), unfolding(crate::specs::Reading::expr_reading))]
-fn read_bytes(alloc: Global, text: &str) -> Result<Expr, ExprRefused>
+/// The expression that a text spells. A tree that is read is spelled, so it is one.
+fn read_within_limits(alloc: Global, text: &str) -> Result<Expr, ExprRefused>
     requires { length text.now < 2 ^ 32 }
     ensures read { Gives result (expr_reading text.now) }
     ensures limits { IfOk result IsExpr }
 {
-    let mut reader = Reader::start(alloc);
-    let mut rest = text.as_bytes();
-    while let Some((b, more)) = rest.split_first() {
-        let place = reader.held.place;
-        match reader.step(alloc, *b) {
-            Ok(Some(next)) => reader = next,
-            Ok(None) => return Err(ExprRefused::At(place)),
-            Err(NoMemory) => return Err(ExprRefused::NoMemory),
-        }
-        rest = more;
+    let tree = read_tree(alloc, text)?;
+    Ok(expr_of(tree.into_node()))
+}
+
+/// The tree that a text spells.
+#[tactic(auto, unfolding(aol_expr_tree::specs::Reading::expr_reading))]
+fn read_tree(alloc: Global, text: &str) -> Result<Small, ExprRefused>
+    requires { length text.now < 2 ^ 32 }
+    ensures { Gives result (expr_reading text.now) }
+{
+    let mut reader = start(alloc);
+    read_from(&mut reader, alloc, text.as_bytes())
+}
+
+/// What a text answers from here on.
+fn read_from(reader: &mut Reader, alloc: Global, bytes: &[u8]) -> Result<Small, ExprRefused>
+    requires { reader.old.held.place + length bytes.now < 2 ^ 32 }
+    ensures { Gives result (reading_from reader.old.held.place reader.old bytes.now) }
+{
+    match run(reader, alloc, bytes) {
+        Ok(()) => ended(reader, alloc),
+        Err(refused) => Err(refused),
     }
-    ended(alloc, reader)
 }
 
 /// What a text answers that ends here.
-fn ended(alloc: Global, reader: Reader) -> Result<Expr, ExprRefused>
-    ensures read { Gives result (ending reader.held.place (finished reader)) }
-    ensures limits { IfOk result IsExpr }
+fn ended(reader: &mut Reader, alloc: Global) -> Result<Small, ExprRefused>
+    ensures { Gives result (ending reader.old.held.place (finished reader.old)) }
 {
     let place = reader.held.place;
-    match reader.finished(alloc) {
+    match finish(reader, alloc) {
         Ok(Some((passed, part))) => answered(passed, part),
         Ok(None) => Err(ExprRefused::At(place)),
         Err(NoMemory) => Err(ExprRefused::NoMemory),
@@ -58,39 +64,16 @@ fn ended(alloc: Global, reader: Reader) -> Result<Expr, ExprRefused>
 }
 
 /// What a text answers that says this.
-#[tactic(auto, unfolding(crate::specs::Reading::answered))]
-fn answered(passed: Option<(u32, LimitName)>, part: Part) -> Result<Expr, ExprRefused>
-    ensures read { Gives result (answered passed part) }
-    ensures limits { IfOk result IsExpr }
+#[tactic(auto, unfolding(aol_expr_tree::specs::Reading::answered))]
+fn answered(passed: Option<(u32, LimitName)>, part: Part) -> Result<Small, ExprRefused>
+    ensures { Gives result (answered passed part) }
 {
     if let Some((start, name)) = passed {
         return Err(ExprRefused::Limit(start, name));
     }
     match part {
-        Part::Kept(tree) => match spelled(tree) {
-            Ok(e) => Ok(e),
-            Err(NoMemory) => Err(ExprRefused::NoMemory),
-        },
-        Part::Forgotten(count) => Err(ExprRefused::Limit(
-            0,
-            if count <= 10_000 {
-                LimitName::Depth
-            } else {
-                LimitName::Expression
-            },
-        )),
-    }
-}
-
-/// The expression with this tree. That its parts are spelled is tested once more.
-fn spelled(tree: Small) -> Result<Expr, NoMemory>
-    ensures tree { IfOk result (λ e. e ≡ tree) }
-    ensures limits { IfOk result IsExpr }
-{
-    let root = tree.into_node();
-    if is_spelled(&root, 1) {
-        Ok(expr_of(root))
-    } else {
-        Err(NoMemory)
+        Part::Kept(tree) => Ok(tree),
+        Part::Forgotten(count) if count <= 10_000 => Err(ExprRefused::Limit(0, LimitName::Depth)),
+        Part::Forgotten(_) => Err(ExprRefused::Limit(0, LimitName::Expression)),
     }
 }

@@ -1,16 +1,14 @@
 //! The canonical text of an expression.
 
-ghost use Rattle.std.specs.Prelude.{◌≡◌, ◌∷◌, [], ◌++◌, ◌==◌, decimal, string_bytes, IfOk, OnOk};
+ghost use Rattle.std.specs.Prelude.{◌≡◌, ◌++◌, ◌==◌, decimal, string_bytes, IfOk, OnOk};
 ghost use Rattle.std.specs.Fmt.{signed_decimal};
 ghost use Rattle.std.specs.List.{join_with_byte};
-ghost use Rattle.aol_expr.specs.Node.{tree_of, trees_of};
-ghost use Rattle.aol_expr.specs.Text.{strength, is_infix, op_text};
-ghost use Rattle.aol_expr.specs.Tree.{read, sum};
-ghost use Rattle.aol_expr.specs.Writing.{tree_strength, left_needs, right_needs, mark, guarded, expr_text, expr_texts};
+ghost use Rattle.aol_expr_tree.specs.Node.{tree_of, trees_of};
+ghost use Rattle.aol_expr_tree.specs.Text.{strength, is_infix, op_text};
+ghost use Rattle.aol_expr_tree.specs.Tree.{read, sum};
+ghost use Rattle.aol_expr_tree.specs.Writing.{tree_strength, left_needs, right_needs, mark, guarded, expr_text, expr_texts};
 
-use crate::expr::Expr;
-use crate::node::ExprNode;
-use crate::op::ExprOp;
+use aol_expr_tree::{Expr, ExprNode, ExprOp};
 use aol_shape::{Items, Name, NoMemory};
 use itoa::Buffer;
 use std::alloc::{AllocError, Global};
@@ -140,14 +138,14 @@ fn append_node(text: &mut String, node: &ExprNode) -> Result<(), AllocError>
         }
         ExprNode::Bin(op, left, right) => {
             text.push_str(op_text(*op))?;
-            append_behind(text, "(", left)?;
-            append_behind(text, ",", right)?;
+            append_after(text, "(", left)?;
+            append_after(text, ",", right)?;
             text.push(')')
         }
         ExprNode::If(condition, then, otherwise) => {
-            append_behind(text, "if(", condition)?;
-            append_behind(text, ",", then)?;
-            append_behind(text, ",", otherwise)?;
+            append_after(text, "if(", condition)?;
+            append_after(text, ",", then)?;
+            append_after(text, ",", otherwise)?;
             text.push(')')
         }
         ExprNode::Sum(name, terms, term) => append_sum(text, name, *terms, term),
@@ -156,7 +154,7 @@ fn append_node(text: &mut String, node: &ExprNode) -> Result<(), AllocError>
 
 /// Appends a text and then a node.
 #[cycle(writing)]
-fn append_behind(text: &mut String, front: &str, node: &ExprNode) -> Result<(), AllocError>
+fn append_after(text: &mut String, front: &str, node: &ExprNode) -> Result<(), AllocError>
     ensures { OnOk result (string_bytes text.new ≡ string_bytes text.old ++ front.now ++ expr_text (tree_of node.now)) }
 {
     text.push_str(front)?;
@@ -182,7 +180,7 @@ fn append_sum(text: &mut String, name: &Name, terms: u32, term: &ExprNode) -> Re
     text.push_str(name.as_str())?;
     text.push(',')?;
     append_count(text, terms)?;
-    append_behind(text, ",", term)?;
+    append_after(text, ",", term)?;
     text.push(')')
 }
 
@@ -207,7 +205,7 @@ fn append_indices(text: &mut String, indices: &Items<ExprNode>) -> Result<(), Al
     };
     append_node(text, first)?;
     for node in others {
-        append_behind(text, ",", node)?;
+        append_after(text, ",", node)?;
     }
     Ok(())
 }

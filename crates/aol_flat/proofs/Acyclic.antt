@@ -1,7 +1,7 @@
 -- Among finitely many elements that need no others, where none needs itself, every list of needs ends.
 use Rattle.std.proofs.Common.{◌≡◌, ℕ, zero, ◌+◌, ◌<◌, ◌≤◌, suc, List, [], ◌∷◌, length, get_or, sym, ◌∙◌, refl, arith, ◌⊎◌, inl, inr, subst}
 use Rattle.std.specs.List.{IsAmong, range_with_len}
-use Rattle.aol_model.specs.declared.document.Model.{Model}
+use Rattle.aol_model_types.specs.declared.document.Model.{Model}
 use Rattle.aol_flat.specs.Place.{Element}
 use Rattle.aol_flat.specs.Need.{Needs, Leads, one, more, NeedsItself, IsGrounded, grounded, IsClosed}
 use Rattle.aol_flat.specs.Unique.{AcyclicIsGrounded}

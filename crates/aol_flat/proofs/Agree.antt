@@ -1,8 +1,8 @@
 -- Two solutions agree wherever they are determined.
 use Rattle.std.proofs.Common.{◌≡◌, suc, List, [], ◌∷◌, map, sym, ◌∙◌, ap, refl, arith}
 use Rattle.std.specs.List.{IsAmong}
-use Rattle.aol_model.specs.declared.document.Model.{Model}
-use Rattle.aol_model.specs.declared.job.InputArray.{InputArray}
+use Rattle.aol_model_types.specs.declared.document.Model.{Model}
+use Rattle.aol_model_types.specs.declared.job.InputArray.{InputArray}
 use Rattle.aol_flat.specs.Tasks.{elementary_number}
 use Rattle.aol_flat.specs.Place.{Element, elements_of}
 use Rattle.aol_flat.specs.InstanceValue.{instance_value}

@@ -6,16 +6,16 @@ use Rattle.std.proofs.lemmas.List.Folds.{list_all-append}
 use Rattle.std.proofs.lemmas.Simd.{map-map}
 use Rattle.std.proofs.lemmas.Option.{none-some}
 use Rattle.aol_shape.specs.Lists.{same}
-use Rattle.aol_expr.specs.declared.port.Port.{Port}
-use Rattle.aol_model.specs.declared.place.PlaceStep.{PlaceStep}
-use Rattle.aol_model.specs.declared.task.Elementary.{Elementary}
-use Rattle.aol_model.specs.declared.task.OutPort.{OutPort}
-use Rattle.aol_model.specs.declared.task.Task.{Task}
-use Rattle.aol_model.specs.declared.task.Task.TheVariants as tasks
-use Rattle.aol_model.specs.declared.place.Key.TheVariants.{KModel, KTasks, KMain, KIn, KOut}
-use Rattle.aol_model.specs.Places.{to_key, to_index}
-use Rattle.aol_model.specs.declared.document.Model.{Model}
-use Rattle.aol_model.specs.Rules.{ShapesAgree, Check, check, each, each_from, task_checks, elementary_checks, port_checks, output_checks, is_new_port, is_new_task, task_name, main_is_task}
+use Rattle.aol_expr_tree.specs.declared.port.Port.{Port}
+use Rattle.aol_model_types.specs.declared.place.PlaceStep.{PlaceStep}
+use Rattle.aol_model_types.specs.declared.task.Elementary.{Elementary}
+use Rattle.aol_model_types.specs.declared.task.OutPort.{OutPort}
+use Rattle.aol_model_types.specs.declared.task.Task.{Task}
+use Rattle.aol_model_types.specs.declared.task.Task.TheVariants as tasks
+use Rattle.aol_model_types.specs.declared.place.Key.TheVariants.{KModel, KTasks, KMain, KIn, KOut}
+use Rattle.aol_model_types.specs.Places.{to_key, to_index}
+use Rattle.aol_model_types.specs.declared.document.Model.{Model}
+use Rattle.aol_model_types.specs.Rules.{ShapesAgree, Check, check, each, each_from, task_checks, elementary_checks, port_checks, output_checks, is_new_port, is_new_task, task_name, main_is_task}
 use Rattle.aol_flat.specs.Tasks.{main_task}
 use Rattle.aol_flat.specs.ElementaryMain.{AreDifferent, port_names, MainPortsDiffer}
 use Rattle.aol_flat.proofs.Names.{same-self, both-true, slice_get-left}
@@ -28,7 +28,7 @@ pub hold-parts : (cs ds : List Check) → Hold (cs ++ ds) → Hold cs × Hold ds
 hold-parts cs ds h =
     both-true (list_all (λ (c : Check). c.holds) cs) (list_all (λ (c : Check). c.holds) ds) (sym (list_all-append (λ (c : Check). c.holds) cs ds) ∙ h)
 
--- each port is new behind the earlier ones
+-- each port is new after the earlier ones
 abbrev AreNew : List Port → List Port → Type 0
 AreNew earlier [] = Unit {0}
 AreNew earlier (p ∷ ps) = (is_new_port earlier p ≡ true) × AreNew (earlier ++ p ∷ []) ps
@@ -50,7 +50,7 @@ outputs-new e at k earlier (o ∷ os) h =
     let P : List Port → Type 0 = λ before. AreNew before (map (λ (q : OutPort). q.port) os) in
     ((both-true (is_new_port (e.ins ++ here) o.port) _ parts.0).0, subst P one_more (outputs-new e at (k + 1) (earlier ++ o ∷ []) os parts.1))
 
--- new ports behind new ports are new
+-- new ports after new ports are new
 both-new : (earlier xs ys : List Port) → AreNew earlier xs → AreNew (earlier ++ xs) ys → AreNew earlier (xs ++ ys)
 both-new earlier [] ys h k = let P : List Port → Type 0 = λ before. AreNew before ys in subst P (append-nil earlier) k
 both-new earlier (x ∷ xs) ys h k =
@@ -58,7 +58,7 @@ both-new earlier (x ∷ xs) ys h k =
     (h.0, both-new (earlier ++ x ∷ []) xs ys h.1 (subst P (sym (append_assoc earlier (x ∷ []) xs)) k))
 
 -- a port whose name an earlier one has isn't new
-old_port : (earlier : List Port) (i : ℕ) (q p : Port) → slice_get earlier i ≡ Some q → q.name ≡ p.name → is_new_port earlier p ≡ true → ⊥
+pub old_port : (earlier : List Port) (i : ℕ) (q p : Port) → slice_get earlier i ≡ Some q → q.name ≡ p.name → is_new_port earlier p ≡ true → ⊥
 old_port [] i q p at e h = none-some q at
 old_port (x ∷ earlier) zero q p at e h =
     let first : x ≡ q = cc in
@@ -113,7 +113,7 @@ names_are e =
     ∙ ap (λ names. map (λ (p : Port). p.name) e.ins ++ names) (map-map (λ (p : Port). p.name) (λ (o : OutPort). o.port) e.outs)
 
 -- the checks of an elementary task
-elementary-different : (at : List PlaceStep) (e : Elementary) → Hold (elementary_checks at e) → AreDifferent (port_names e)
+pub elementary-different : (at : List PlaceStep) (e : Elementary) → Hold (elementary_checks at e) → AreDifferent (port_names e)
 elementary-different at e h =
     let parts = hold-parts (each (port_checks []) (to_key at KIn) e.ins) (each (output_checks e) (to_key at KOut) e.outs) h in
     let outs : List Port = map (λ (o : OutPort). o.port) e.outs in

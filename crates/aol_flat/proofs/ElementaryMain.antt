@@ -5,18 +5,18 @@ use Rattle.std.proofs.lemmas.List.{length-map}
 use Rattle.std.proofs.lemmas.Simd.{map-map}
 use Rattle.std.proofs.lemmas.Option.{none-some, slice_get-map, slice_get_past, get_or_from_slice_get, option_and_then_some}
 use Rattle.aol_shape.specs.Shape.{rank, points, IsPointOf}
-use Rattle.aol_expr.specs.declared.port.Port.{Port}
-use Rattle.aol_expr.specs.declared.value.Val.{Val}
-use Rattle.aol_expr.specs.declared.value.Val.TheVariants.{Num}
-use Rattle.aol_model.specs.declared.document.Model.{Model}
-use Rattle.aol_model.specs.declared.job.InputArray.{InputArray}
-use Rattle.aol_model.specs.declared.task.Compound.{Compound}
-use Rattle.aol_model.specs.declared.task.Elementary.{Elementary}
-use Rattle.aol_model.specs.declared.task.OutPort.{OutPort}
-use Rattle.aol_model.specs.declared.task.Repeated.{Repeated}
-use Rattle.aol_model.specs.declared.task.Task.{Task}
-use Rattle.aol_model.specs.declared.task.Task.TheVariants as tasks
-use Rattle.aol_model.specs.Rules.{inputs_of}
+use Rattle.aol_expr_tree.specs.declared.port.Port.{Port}
+use Rattle.aol_expr_tree.specs.declared.value.Val.{Val}
+use Rattle.aol_expr_tree.specs.declared.value.Val.TheVariants.{Num}
+use Rattle.aol_model_types.specs.declared.document.Model.{Model}
+use Rattle.aol_model_types.specs.declared.job.InputArray.{InputArray}
+use Rattle.aol_model_types.specs.declared.task.Compound.{Compound}
+use Rattle.aol_model_types.specs.declared.task.Elementary.{Elementary}
+use Rattle.aol_model_types.specs.declared.task.OutPort.{OutPort}
+use Rattle.aol_model_types.specs.declared.task.Repeated.{Repeated}
+use Rattle.aol_model_types.specs.declared.task.Task.{Task}
+use Rattle.aol_model_types.specs.declared.task.Task.TheVariants as tasks
+use Rattle.aol_model_types.specs.Rules.{inputs_of}
 use Rattle.aol_flat.specs.Tasks.{main_task, main_inputs, elementary_number}
 use Rattle.aol_flat.specs.Place.{Place, Element, task_at, task_below, port_elements, elements_of}
 use Rattle.aol_flat.specs.Inputs.{numbers_named, numbers_for, IsGivenFor, InputsFit}

@@ -3,22 +3,22 @@ use Rattle.std.proofs.Common.{◌≡◌, ℕ, refl, arith, List, [], ◌∷◌, 
 use Rattle.std.specs.Fmt.{digits}
 use Rattle.aol_shape.specs.Shape.{points}
 use Rattle.aol_tiler.specs.Matrices.{TilerOf}
-use Rattle.aol_expr.specs.declared.op.ExprOp.TheVariants.{Add, Mul}
-use Rattle.aol_expr.specs.declared.port.Port.{Port}
-use Rattle.aol_expr.specs.declared.value.Kind.TheVariants.{Overflow, Range}
-use Rattle.aol_expr.specs.declared.value.Val.{Val}
-use Rattle.aol_expr.specs.declared.value.Val.TheVariants.{Num, Bad}
-use Rattle.aol_expr.specs.declared.value.Width.TheVariants.{Int16, Int64}
-use Rattle.aol_expr.specs.Tree.{index, read, bin, trees}
+use Rattle.aol_expr_tree.specs.declared.op.ExprOp.TheVariants.{Add, Mul}
+use Rattle.aol_expr_tree.specs.declared.port.Port.{Port}
+use Rattle.aol_expr_tree.specs.declared.value.Kind.TheVariants.{Overflow, Range}
+use Rattle.aol_expr_tree.specs.declared.value.Val.{Val}
+use Rattle.aol_expr_tree.specs.declared.value.Val.TheVariants.{Num, Bad}
+use Rattle.aol_expr_tree.specs.declared.value.Width.TheVariants.{Int16, Int64}
+use Rattle.aol_expr_tree.specs.Tree.{index, read, bin, trees}
 use Rattle.aol_link.specs.declared.link.Fallback.TheVariants.{Number}
 use Rattle.aol_link.specs.declared.link.When.TheVariants.{Always}
-use Rattle.aol_model.specs.declared.document.Model.{Model}
-use Rattle.aol_model.specs.declared.job.InputArray.{InputArray}
-use Rattle.aol_model.specs.declared.task.Elementary.{Elementary}
-use Rattle.aol_model.specs.declared.task.Hook.{Hook}
-use Rattle.aol_model.specs.declared.task.OutPort.{OutPort}
-use Rattle.aol_model.specs.declared.task.Task.{Task}
-use Rattle.aol_model.specs.declared.task.Task.TheVariants as tasks
+use Rattle.aol_model_types.specs.declared.document.Model.{Model}
+use Rattle.aol_model_types.specs.declared.job.InputArray.{InputArray}
+use Rattle.aol_model_types.specs.declared.task.Elementary.{Elementary}
+use Rattle.aol_model_types.specs.declared.task.Hook.{Hook}
+use Rattle.aol_model_types.specs.declared.task.OutPort.{OutPort}
+use Rattle.aol_model_types.specs.declared.task.Task.{Task}
+use Rattle.aol_model_types.specs.declared.task.Task.TheVariants as tasks
 use Rattle.aol_flat.specs.Place.{Element, IntoPart, IntoRepetition}
 use Rattle.aol_flat.specs.Inputs.{InputsFit}
 use Rattle.aol_flat.specs.InstanceValue.{instance_value, instance_outputs}

@@ -6,19 +6,20 @@ use Rattle.aol_shape.specs.Lists.{same}
 use Rattle.aol_shape.specs.Shape.{rank, point_at, IsPointOf}
 use Rattle.aol_shape.proofs.Points.{point_at-rank}
 use Rattle.aol_vsl.specs.Text.{shape_text}
-use Rattle.aol_expr.specs.declared.port.Port.{Port}
-use Rattle.aol_expr.specs.declared.value.Kind.{Kind}
-use Rattle.aol_model.specs.declared.document.Model.{Model}
-use Rattle.aol_model.specs.declared.task.Elementary.{Elementary}
-use Rattle.aol_model.specs.declared.task.OutPort.{OutPort}
-use Rattle.aol_model.specs.declared.task.Task.TheVariants as tasks
-use Rattle.aol_model.specs.Rules.{task_name, outputs_of}
+use Rattle.aol_expr_tree.specs.declared.port.Port.{Port}
+use Rattle.aol_expr_tree.specs.declared.value.Kind.{Kind}
+use Rattle.aol_model_types.specs.declared.document.Model.{Model}
+use Rattle.aol_model_types.specs.declared.task.Elementary.{Elementary}
+use Rattle.aol_model_types.specs.declared.task.OutPort.{OutPort}
+use Rattle.aol_model_types.specs.declared.task.Task.TheVariants as tasks
+use Rattle.aol_model_types.specs.Rules.{task_name, outputs_of}
 use Rattle.aol_flat.specs.Tasks.{main_task, is_elementary, elementary_tasks, elementary_number}
-use Rattle.aol_flat.specs.Printed.{line, spaced, kind_text, fault_line}
+use Rattle.aol_shape.specs.Lines.{line, spaced}
+use Rattle.aol_flat.specs.Printed.{kind_text, fault_line}
 use Rattle.aol_flat.proofs.Names.{same-equal}
 
 -- what is found first passes the test
-find-passes : {X : Type 0} (q : X → Bool) (xs : List X) (x : X) → find q xs ≡ Some x → q x ≡ true
+pub find-passes : {X : Type 0} (q : X → Bool) (xs : List X) (x : X) → find q xs ≡ Some x → q x ≡ true
 find-passes q [] x f = absurd (none-some x f)
 find-passes q (y ∷ ys) x f = by_test (q y) refl f (find-passes q ys x)
   where

@@ -7,12 +7,12 @@ use Rattle.std.proofs.lemmas.Option.{slice_get_within}
 use Rattle.aol_shape.specs.Lists.{numbers_from, numbers_below}
 use Rattle.aol_shape.specs.Shape.{size, rank, point_at, points, IsPointOf}
 use Rattle.aol_shape.proofs.Points.{point_at-is, rank-point_at}
-use Rattle.aol_expr.specs.declared.port.Port.{Port}
-use Rattle.aol_expr.specs.declared.value.Val.{Val}
-use Rattle.aol_expr.specs.declared.value.Val.TheVariants.{Num}
-use Rattle.aol_model.specs.declared.job.InputArray.{InputArray}
-use Rattle.aol_model.specs.declared.task.Elementary.{Elementary}
-use Rattle.aol_model.specs.declared.task.OutPort.{OutPort}
+use Rattle.aol_expr_tree.specs.declared.port.Port.{Port}
+use Rattle.aol_expr_tree.specs.declared.value.Val.{Val}
+use Rattle.aol_expr_tree.specs.declared.value.Val.TheVariants.{Num}
+use Rattle.aol_model_types.specs.declared.job.InputArray.{InputArray}
+use Rattle.aol_model_types.specs.declared.task.Elementary.{Elementary}
+use Rattle.aol_model_types.specs.declared.task.OutPort.{OutPort}
 use Rattle.aol_flat.specs.Place.{Place, port_elements, elements_of}
 use Rattle.aol_flat.specs.Inputs.{numbers_named, numbers_for}
 use Rattle.aol_flat.specs.InstanceValue.{first_fault, number_of, fault_or, computed, instance_value}

@@ -1,13 +1,13 @@
 -- A model whose main task computes: its main outputs, by the numbers that are given.
 use Rattle.std.specs.Prelude.{◌≡◌, ℕ, List, [], ◌++◌, map, Some, slice_get}
 use Rattle.aol_shape.specs.Shape.{points}
-use Rattle.aol_expr.specs.declared.value.Val.{Val}
-use Rattle.aol_model.specs.declared.document.Model.{Model}
-use Rattle.aol_model.specs.declared.job.InputArray.{InputArray}
-use Rattle.aol_model.specs.declared.task.Elementary.{Elementary}
-use Rattle.aol_model.specs.declared.task.OutPort.{OutPort}
-use Rattle.aol_model.specs.declared.task.Task.TheVariants as tasks
-use Rattle.aol_model.specs.Rules.{ShapesAgree}
+use Rattle.aol_expr_tree.specs.declared.value.Val.{Val}
+use Rattle.aol_model_types.specs.declared.document.Model.{Model}
+use Rattle.aol_model_types.specs.declared.job.InputArray.{InputArray}
+use Rattle.aol_model_types.specs.declared.task.Elementary.{Elementary}
+use Rattle.aol_model_types.specs.declared.task.OutPort.{OutPort}
+use Rattle.aol_model_types.specs.declared.task.Task.TheVariants as tasks
+use Rattle.aol_model_types.specs.Rules.{ShapesAgree}
 use Rattle.aol_flat.specs.Tasks.{main_task, elementary_number}
 use Rattle.aol_flat.specs.Place.{port_elements}
 use Rattle.aol_flat.specs.Inputs.{numbers_for, InputsFit}

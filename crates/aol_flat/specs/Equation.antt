@@ -4,25 +4,25 @@ use Rattle.std.specs.List.{IsAmong}
 use Rattle.aol_shape.specs.Shape.{IsPointOf, rank}
 use Rattle.aol_tiler.specs.Matrices.{TilerOf}
 use Rattle.aol_tiler.specs.Tiler.{address_point}
-use Rattle.aol_expr.specs.declared.port.Port.{Port}
-use Rattle.aol_expr.specs.declared.value.Val.{Val}
-use Rattle.aol_expr.specs.declared.value.Val.TheVariants.{Num}
+use Rattle.aol_expr_tree.specs.declared.port.Port.{Port}
+use Rattle.aol_expr_tree.specs.declared.value.Val.{Val}
+use Rattle.aol_expr_tree.specs.declared.value.Val.TheVariants.{Num}
 use Rattle.aol_link.specs.declared.link.Choice.{Choice}
 use Rattle.aol_link.specs.declared.link.Fallback.TheVariants.{Number, Tiled}
 use Rattle.aol_link.specs.declared.link.Interlink.{Interlink}
 use Rattle.aol_link.specs.Links.{stepped_back, source_repetition, first_choice}
-use Rattle.aol_model.specs.declared.document.Model.{Model}
-use Rattle.aol_model.specs.declared.job.InputArray.{InputArray}
-use Rattle.aol_model.specs.declared.task.Elementary.{Elementary}
-use Rattle.aol_model.specs.declared.task.OutPort.{OutPort}
-use Rattle.aol_model.specs.declared.task.Plain.{Plain}
-use Rattle.aol_model.specs.declared.task.Copied.{Copied}
-use Rattle.aol_model.specs.declared.task.Compound.{Compound}
-use Rattle.aol_model.specs.declared.task.TilerOn.{TilerOn}
-use Rattle.aol_model.specs.declared.task.Repeated.{Repeated}
-use Rattle.aol_model.specs.declared.task.Task.{Task}
-use Rattle.aol_model.specs.declared.task.Task.TheVariants as tasks
-use Rattle.aol_model.specs.Rules.{inputs_of, port_shape}
+use Rattle.aol_model_types.specs.declared.document.Model.{Model}
+use Rattle.aol_model_types.specs.declared.job.InputArray.{InputArray}
+use Rattle.aol_model_types.specs.declared.task.Elementary.{Elementary}
+use Rattle.aol_model_types.specs.declared.task.OutPort.{OutPort}
+use Rattle.aol_model_types.specs.declared.task.Plain.{Plain}
+use Rattle.aol_model_types.specs.declared.task.Copied.{Copied}
+use Rattle.aol_model_types.specs.declared.task.Compound.{Compound}
+use Rattle.aol_model_types.specs.declared.task.TilerOn.{TilerOn}
+use Rattle.aol_model_types.specs.declared.task.Repeated.{Repeated}
+use Rattle.aol_model_types.specs.declared.task.Task.{Task}
+use Rattle.aol_model_types.specs.declared.task.Task.TheVariants as tasks
+use Rattle.aol_model_types.specs.Rules.{inputs_of, port_shape}
 use Rattle.aol_flat.specs.Tasks.{main_task, elementary_number}
 use Rattle.aol_flat.specs.Place.{Place, Element, IsElement, IntoRepetition, task_at, elements_of, end_element}
 use Rattle.aol_flat.specs.Inputs.{numbers_named}

@@ -3,9 +3,9 @@ use Rattle.std.specs.Prelude.{◌≡◌, ℕ, ℤ, List, [], length, find, flat_
 use Rattle.std.specs.List.{AllByRecursion}
 use Rattle.aol_shape.specs.Lists.{same}
 use Rattle.aol_shape.specs.Shape.{size}
-use Rattle.aol_expr.specs.declared.port.Port.{Port}
-use Rattle.aol_model.specs.declared.document.Model.{Model}
-use Rattle.aol_model.specs.declared.job.InputArray.{InputArray}
+use Rattle.aol_expr_tree.specs.declared.port.Port.{Port}
+use Rattle.aol_model_types.specs.declared.document.Model.{Model}
+use Rattle.aol_model_types.specs.declared.job.InputArray.{InputArray}
 use Rattle.aol_flat.specs.Tasks.{main_inputs}
 
 -- the numbers of the first array that has this name, in order of rank; none where there is no such array

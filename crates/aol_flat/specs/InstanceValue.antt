@@ -2,17 +2,17 @@
 use Rattle.std.specs.Prelude.{ℕ, ℤ, pos, List, [], ◌∷◌, map, flat_map, take, drop, Bool, true, ◌&&◌, Option, Some, None, unwrap_or, Result, Ok, Err, slice_get, if◌then◌else◌}
 use Rattle.std.specs.List.{list_all, enumerate_from}
 use Rattle.aol_shape.specs.Shape.{size, rank, points}
-use Rattle.aol_expr.specs.declared.port.Port.{Port}
-use Rattle.aol_expr.specs.declared.value.Kind.{Kind}
-use Rattle.aol_expr.specs.declared.value.Kind.TheVariants.{Range}
-use Rattle.aol_expr.specs.declared.value.Site.{Site}
-use Rattle.aol_expr.specs.declared.value.Val.{Val}
-use Rattle.aol_expr.specs.declared.value.Val.TheVariants.{Num, Bad}
-use Rattle.aol_expr.specs.declared.value.Width.{Width}
-use Rattle.aol_expr.specs.declared.value.Width.TheVariants.{Int64}
-use Rattle.aol_expr.specs.Meaning.{value, holds}
-use Rattle.aol_model.specs.declared.task.Elementary.{Elementary}
-use Rattle.aol_model.specs.declared.task.OutPort.{OutPort}
+use Rattle.aol_expr_tree.specs.declared.port.Port.{Port}
+use Rattle.aol_expr_tree.specs.declared.value.Kind.{Kind}
+use Rattle.aol_expr_tree.specs.declared.value.Kind.TheVariants.{Range}
+use Rattle.aol_expr_tree.specs.declared.value.Site.{Site}
+use Rattle.aol_expr_tree.specs.declared.value.Val.{Val}
+use Rattle.aol_expr_tree.specs.declared.value.Val.TheVariants.{Num, Bad}
+use Rattle.aol_expr_tree.specs.declared.value.Width.{Width}
+use Rattle.aol_expr_tree.specs.declared.value.Width.TheVariants.{Int64}
+use Rattle.aol_expr_tree.specs.Meaning.{value, holds}
+use Rattle.aol_model_types.specs.declared.task.Elementary.{Elementary}
+use Rattle.aol_model_types.specs.declared.task.OutPort.{OutPort}
 
 -- the first fault of some values
 abbrev pub first_fault : List Val → Option Site

@@ -1,7 +1,7 @@
 -- Which elements an element needs.
 use Rattle.std.specs.Prelude.{List, ℤ}
 use Rattle.std.specs.List.{IsAmong}
-use Rattle.aol_model.specs.declared.document.Model.{Model}
+use Rattle.aol_model_types.specs.declared.document.Model.{Model}
 use Rattle.aol_flat.specs.Place.{Element, elements_of}
 use Rattle.aol_flat.specs.Equation.{MainInput, ElementaryOutput, PartInput, OwnOutput, TiledInput, EarlierOutput, DefaultNumber, DefaultElement, OuterOutput, CopiedElement}
 

@@ -2,15 +2,15 @@
 use Rattle.std.specs.Prelude.{◌≡◌, ℕ, List, [], ◌∷◌, ◌++◌, map, flat_map, Option, Some, None, option_and_then, if◌then◌else◌, slice_get}
 use Rattle.aol_shape.specs.Shape.{IsPointOf, points}
 use Rattle.aol_tiler.specs.Tiler.{integers}
-use Rattle.aol_expr.specs.declared.port.Port.{Port}
-use Rattle.aol_link.specs.Links.{is_inside}
-use Rattle.aol_model.specs.declared.document.Model.{Model}
-use Rattle.aol_model.specs.declared.task.Compound.{Compound}
-use Rattle.aol_model.specs.declared.task.Hook.{Hook}
-use Rattle.aol_model.specs.declared.task.Part.{Part}
-use Rattle.aol_model.specs.declared.task.Task.{Task}
-use Rattle.aol_model.specs.declared.task.Task.TheVariants as tasks
-use Rattle.aol_model.specs.Rules.{task_named, inputs_of, outputs_of, port_shape}
+use Rattle.aol_expr_tree.specs.declared.port.Port.{Port}
+use Rattle.aol_shape.specs.Vectors.{is_inside}
+use Rattle.aol_model_types.specs.declared.document.Model.{Model}
+use Rattle.aol_model_types.specs.declared.task.Compound.{Compound}
+use Rattle.aol_model_types.specs.declared.task.Hook.{Hook}
+use Rattle.aol_model_types.specs.declared.task.Part.{Part}
+use Rattle.aol_model_types.specs.declared.task.Task.{Task}
+use Rattle.aol_model_types.specs.declared.task.Task.TheVariants as tasks
+use Rattle.aol_model_types.specs.Rules.{task_named, inputs_of, outputs_of, port_shape}
 use Rattle.aol_flat.specs.Tasks.{main_task, part_number}
 
 -- a step down in the hierarchy: into a part of a compound, by its number, or into one repetition of a repeated task

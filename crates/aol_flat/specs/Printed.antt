@@ -1,29 +1,20 @@
 -- The printed lines that hold values of main outputs.
 use Rattle.std.specs.Prelude.{ℕ, List, [], ◌∷◌, ◌++◌, map, flat_map, Option, option_map, unwrap_or, slice_get, codes}
 use Rattle.std.specs.Fmt.{signed_decimal}
+use Rattle.aol_shape.specs.Lines.{line, spaced}
 use Rattle.aol_shape.specs.Shape.{point_at}
 use Rattle.aol_vsl.specs.Text.{shape_text}
-use Rattle.aol_expr.specs.declared.port.Port.{Port}
-use Rattle.aol_expr.specs.declared.value.Kind.{Kind}
-use Rattle.aol_expr.specs.declared.value.Kind.TheVariants.{Overflow, Divide, Index, Range}
-use Rattle.aol_expr.specs.declared.value.Site.{Site}
-use Rattle.aol_expr.specs.declared.value.Val.{Val}
-use Rattle.aol_expr.specs.declared.value.Val.TheVariants.{Num, Bad}
-use Rattle.aol_model.specs.declared.document.Model.{Model}
-use Rattle.aol_model.specs.Rules.{task_name, outputs_of}
+use Rattle.aol_expr_tree.specs.declared.port.Port.{Port}
+use Rattle.aol_expr_tree.specs.declared.value.Kind.{Kind}
+use Rattle.aol_expr_tree.specs.declared.value.Kind.TheVariants.{Overflow, Divide, Index, Range}
+use Rattle.aol_expr_tree.specs.declared.value.Site.{Site}
+use Rattle.aol_expr_tree.specs.declared.value.Val.{Val}
+use Rattle.aol_expr_tree.specs.declared.value.Val.TheVariants.{Num, Bad}
+use Rattle.aol_model_types.specs.declared.document.Model.{Model}
+use Rattle.aol_model_types.specs.Rules.{task_name, outputs_of}
 use Rattle.aol_flat.specs.Tasks.{main_outputs, elementary_tasks}
 use Rattle.aol_flat.specs.Place.{port_elements, elements_of}
 use Rattle.aol_flat.specs.Equation.{Valuation}
-
--- a line ends with a line feed
-abbrev pub line : List ℕ → List ℕ
-line text = text ++ 10 ∷ []
-
--- words with a blank between each two
-abbrev pub spaced : List (List ℕ) → List ℕ
-spaced [] = []
-spaced (w ∷ []) = w
-spaced (w ∷ x ∷ ws) = w ++ codes " " ++ spaced (x ∷ ws)
 
 -- a blank and the number; nothing of a fault, which is never printed so
 abbrev pub value_text : Val → List ℕ

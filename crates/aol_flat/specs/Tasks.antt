@@ -2,13 +2,13 @@
 use Rattle.std.specs.Prelude.{ℕ, Bool, true, false, List, [], filter, Option, option_map, unwrap_or}
 use Rattle.std.specs.List.{position_or_len}
 use Rattle.aol_shape.specs.Lists.{same}
-use Rattle.aol_expr.specs.declared.port.Port.{Port}
-use Rattle.aol_model.specs.declared.document.Model.{Model}
-use Rattle.aol_model.specs.declared.task.Compound.{Compound}
-use Rattle.aol_model.specs.declared.task.Part.{Part}
-use Rattle.aol_model.specs.declared.task.Task.{Task}
-use Rattle.aol_model.specs.declared.task.Task.TheVariants as tasks
-use Rattle.aol_model.specs.Rules.{task_name, task_named, inputs_of, outputs_of}
+use Rattle.aol_expr_tree.specs.declared.port.Port.{Port}
+use Rattle.aol_model_types.specs.declared.document.Model.{Model}
+use Rattle.aol_model_types.specs.declared.task.Compound.{Compound}
+use Rattle.aol_model_types.specs.declared.task.Part.{Part}
+use Rattle.aol_model_types.specs.declared.task.Task.{Task}
+use Rattle.aol_model_types.specs.declared.task.Task.TheVariants as tasks
+use Rattle.aol_model_types.specs.Rules.{task_name, task_named, inputs_of, outputs_of}
 
 -- the first task that has the name of the main task
 abbrev pub main_task : Model → Option Task

@@ -1,8 +1,8 @@
 -- What the solutions of a model have in common.
 use Rattle.std.specs.Prelude.{◌≡◌, List}
 use Rattle.std.specs.List.{IsAmong}
-use Rattle.aol_model.specs.declared.document.Model.{Model}
-use Rattle.aol_model.specs.declared.job.InputArray.{InputArray}
+use Rattle.aol_model_types.specs.declared.document.Model.{Model}
+use Rattle.aol_model_types.specs.declared.job.InputArray.{InputArray}
 use Rattle.aol_flat.specs.Place.{Element}
 use Rattle.aol_flat.specs.Inputs.{InputsFit}
 use Rattle.aol_flat.specs.Equation.{Valuation, IsSolution}

@@ -1,10 +1,10 @@
 ghost use Rattle.std.specs.Prelude.{◌≡◌};
 ghost use Rattle.std.specs.List.{list_all};
-ghost use Rattle.aol_expr.specs.Meaning.{holds};
-ghost use Rattle.aol_expr.specs.declared.value.Val.TheVariants.{Bad};
+ghost use Rattle.aol_expr_tree.specs.Meaning.{holds};
+ghost use Rattle.aol_expr_tree.specs.declared.value.Val.TheVariants.{Bad};
 ghost use Rattle.aol_flat.specs.InstanceValue.{all_hold, in_width};
 
-use aol_expr::{Kind, Port, Site, Val, Width};
+use aol_expr_tree::{Kind, Port, Site, Val, Width};
 
 /// Whether the width holds each number.
 fn all_within(width: Width, nums: &[i64]) -> bool

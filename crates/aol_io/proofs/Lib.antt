@@ -1,3 +1,4 @@
 pub mod Appended
 pub mod Given
 pub mod Over
+pub mod Taken

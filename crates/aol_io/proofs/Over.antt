@@ -14,7 +14,7 @@ over_next room piece place k h i =
     let k-long : length t ≡ k = length-take-le k piece (omega arith) in
     let front : length (a ++ t) ≡ place + k = omega (arith, length-append a t, length-take-le place room (omega arith), k-long) in
     let next : take (k + 1) piece ≡ t ++ b ∷ [] = rw add-one (take-suc piece k 0 i) in
-    let behind : place + length (take (k + 1) piece) ≡ suc (place + k) = omega (arith, length-take-le (k + 1) piece (omega arith)) in
+    let from : place + length (take (k + 1) piece) ≡ suc (place + k) = omega (arith, length-take-le (k + 1) piece (omega arith)) in
     ap (λ n. set (a ++ t ++ drop (place + n) room) (place + k) b) k-long
     ∙ ap (λ z. set (a ++ t ++ z) (place + k) b) (drop-cons room (place + k) 0 (omega arith))
     ∙ ap (λ n. set (a ++ t ++ (get_or room (place + k) 0 ∷ rest)) n b) (sym front)
@@ -22,4 +22,4 @@ over_next room piece place k h i =
     ∙ sym (append_assoc (a ++ t) (b ∷ []) rest)
     ∙ ap (λ z. z ++ rest) (append_assoc a t (b ∷ []))
     ∙ ap (λ z. a ++ z ++ rest) (sym next)
-    ∙ ap (λ n. a ++ take (k + 1) piece ++ drop n room) (sym behind)
+    ∙ ap (λ n. a ++ take (k + 1) piece ++ drop n room) (sym from)

@@ -91,9 +91,13 @@ unread bytes at = Some (drop at bytes)
 abbrev pub given : List ℕ → ℕ → ℕ → ℕ → ℕ
 given bytes at piece room = min piece (min room (length bytes - at))
 
--- the source behind a read that doesn't fail
-abbrev pub behind_calm : CalmSourceOf → ℕ → CalmSourceOf
-behind_calm s room = record s { at = s.at + given s.bytes s.at s.piece room }
+-- the buffer after n bytes were copied to its front: the rest of it is as before
+abbrev pub filled : List ℕ → ℕ → ℕ → List ℕ → List ℕ
+filled bytes at n into = take n (drop at bytes) ++ drop n into
+
+-- the source after a read that doesn't fail
+abbrev pub after_calm : CalmSourceOf → ℕ → CalmSourceOf
+after_calm s room = record s { at = s.at + given s.bytes s.at s.piece room }
 
 -- the next read fails
 abbrev pub read_fails : MemSourceOf → Bool
@@ -103,10 +107,14 @@ read_fails s = is_one_of (next_call s.calls) s.failing
 abbrev pub read_answer : MemSourceOf → ℕ → Result ℕ Failed
 read_answer s room = if read_fails s then Err (record {}) else Ok (given s.bytes s.at s.piece room)
 
--- the source behind it
-abbrev pub behind_read : MemSourceOf → ℕ → MemSourceOf
-behind_read s room = if read_fails s then record s { calls = next_call s.calls; faults = next_fault s.faults }
+-- the source after it
+abbrev pub after_read : MemSourceOf → ℕ → MemSourceOf
+after_read s room = if read_fails s then record s { calls = next_call s.calls; faults = next_fault s.faults }
     else record s { calls = next_call s.calls; at = s.at + given s.bytes s.at s.piece room }
+
+-- the buffer after it: a failed read leaves it as it was
+abbrev pub buffer_after : MemSourceOf → List ℕ → List ℕ
+buffer_after s into = if read_fails s then into else filled s.bytes s.at (given s.bytes s.at s.piece (length into)) into
 
 -- ---- a write
 
@@ -130,7 +138,7 @@ write_answer k size = if write_fails k size then Err (record {}) else Ok (taken_
 abbrev pub written_at : List ℕ → ℕ → List ℕ → List ℕ
 written_at room place bytes = take place room ++ bytes ++ drop (place + length bytes) room
 
--- the sink behind the write of this piece
-abbrev pub behind_write : MemSinkOf → List ℕ → MemSinkOf
-behind_write k piece = if write_fails k (length piece) then record k { calls = next_call k.calls; faults = next_fault k.faults }
+-- the sink after the write of this piece
+abbrev pub after_write : MemSinkOf → List ℕ → MemSinkOf
+after_write k piece = if write_fails k (length piece) then record k { calls = next_call k.calls; faults = next_fault k.faults }
     else record k { calls = next_call k.calls; used = k.used + taken_of k (length piece); room = written_at k.room k.used (take (taken_of k (length piece)) piece) }

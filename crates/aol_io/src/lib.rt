@@ -5,8 +5,6 @@ mod memory;
 mod reading;
 mod standard;
 mod streams;
-#[cfg(test)]
-mod tests;
 mod writing;
 
 pub use memory::{CalmSource, Discard, MemSink, MemSource};

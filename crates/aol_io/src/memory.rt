@@ -1,7 +1,7 @@
 ghost use Rattle.std.specs.Prelude.{◌≡◌, ◌+◌, ◌^◌, ◌<◌, ◌≤◌, ◌↔◌, length, take, None, Ok, IfSome, IsSome};
 ghost use Rattle.aol_io.specs.Causes.{HasCause};
 ghost use Rattle.aol_io.specs.Streams.{GivesNext, ReadGives, WriteTakes};
-ghost use Rattle.aol_io.specs.Memory.{unread, written, given, read_answer, behind_read, behind_calm, write_answer, behind_write, written_at, fresh_source, fresh_calm, fresh_sink};
+ghost use Rattle.aol_io.specs.Memory.{unread, written, given, filled, read_answer, after_read, after_calm, buffer_after, write_answer, after_write, written_at, fresh_source, fresh_calm, fresh_sink};
 
 use crate::streams::{Failed, Sink, Source};
 use aol_shape::Items;
@@ -9,7 +9,7 @@ use std::marker::Model;
 
 /// Bytes in memory, of which `at` were read. A call gives as many as the least of `piece`, the
 /// buffer's length and the bytes left. The calls whose numbers (from 1) stand in `failing` fail,
-/// and `faults` counts these.
+/// and `faults` counts these. A call that fails changes nothing else, nor the buffer.
 #[derive(Drop)]
 pub struct MemSource {
     pub bytes: Items<u8>,
@@ -63,7 +63,8 @@ impl Source for MemSource {
         ensures bytes { ReadGives (unread self.old.bytes self.old.at) (unread self.new.bytes self.new.at) result into.new }
         ensures cause { HasCause self.old.faults self.new.faults result }
         ensures answer { result ≡ read_answer self.old (length into.old) }
-        ensures behind { self.new ≡ behind_read self.old (length into.old) }
+        ensures after { self.new ≡ after_read self.old (length into.old) }
+        ensures buffer { into.new ≡ buffer_after self.old into.old }
     {
         self.calls = self.calls.saturating_add(1);
         if self.failing.as_slice().contains(&self.calls) {
@@ -81,6 +82,7 @@ fn copy_next(bytes: &[u8], at: u32, piece: u32, into: &mut [u8]) -> usize
     requires within { at ≤ length bytes.now }
     requires moves { 1 ≤ piece }
     ensures count { result ≡ given bytes.now at piece (length into.old) }
+    ensures copied { into.new ≡ filled bytes.now at result into.old }
     ensures next { GivesNext (unread bytes.now at) (unread bytes.now (at + result)) result into.new }
 {
     let rest = &bytes[at as usize..];
@@ -136,7 +138,8 @@ impl Source for CalmSource {
         ensures bytes { ReadGives (unread self.old.bytes self.old.at) (unread self.new.bytes self.new.at) result into.new }
         ensures cause { HasCause 0 0 result }
         ensures answer { result ≡ Ok (given self.old.bytes self.old.at self.old.piece (length into.old)) }
-        ensures behind { self.new ≡ behind_calm self.old (length into.old) }
+        ensures after { self.new ≡ after_calm self.old (length into.old) }
+        ensures buffer { into.new ≡ filled self.old.bytes self.old.at (given self.old.bytes self.old.at self.old.piece (length into.old)) into.old }
     {
         let n = copy_next(self.bytes.as_slice(), self.at, self.piece, into);
         self.at += n as u32;
@@ -146,7 +149,8 @@ impl Source for CalmSource {
 
 /// Room in memory, of which the first `used` bytes were written. A call takes as many bytes as the
 /// least of `piece`, the given bytes and the room left. It fails, as `faults` counts, where its
-/// number (from 1) stands in `failing`, and where bytes are given and there is no room left.
+/// number (from 1) stands in `failing`, and where bytes are given and there is no room left; it
+/// then takes nothing.
 #[derive(Drop)]
 pub struct MemSink {
     pub room: Items<u8>,
@@ -207,7 +211,7 @@ impl Sink for MemSink {
         ensures bytes { WriteTakes (written self.old.room self.old.used) (written self.new.room self.new.used) result piece.now }
         ensures cause { HasCause self.old.faults self.new.faults result }
         ensures answer { result ≡ write_answer self.old (length piece.now) }
-        ensures behind { self.new ≡ behind_write self.old piece.now }
+        ensures after { self.new ≡ after_write self.old piece.now }
     {
         self.calls = self.calls.saturating_add(1);
         let used = self.used as usize;

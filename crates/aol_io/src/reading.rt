@@ -1,6 +1,6 @@
-ghost use Rattle.std.specs.Prelude.{◌≤◌, ◌≡◌, length, IfOk};
+ghost use Rattle.std.specs.Prelude.{◌≤◌, ◌≡◌, ◌≢◌, ◌+◌, length, IfOk};
 ghost use Rattle.aol_io.specs.Causes.{Rose};
-ghost use Rattle.aol_io.specs.Streams.{WasAll, WasLong};
+ghost use Rattle.aol_io.specs.Streams.{WasAll, WasLong, TookAtMost};
 
 use crate::streams::Source;
 use aol_shape::Items;
@@ -26,7 +26,7 @@ pub enum ReadRefused {
 
 /// Reads all bytes up to the end of the source, at most `limit` of them.
 ///
-/// It takes no more than `limit + 1` bytes, and exactly so many where it answers `TooLong`.
+/// It never takes more than `limit + 1` bytes, and answers `TooLong` exactly where it took so many.
 /// `ReadFault` comes only where the source's count of faults rose in this call.
 pub fn read_all<S: Source>(
     alloc: Global,
@@ -36,12 +36,14 @@ pub fn read_all<S: Source>(
     ensures all { IfOk result (λ bytes. (length bytes ≤ limit) × WasAll (S.left source.old) (S.left source.new) bytes) }
     ensures fault { result ≡ Err ReadRefused.ReadFault → Rose (S.faults source.old) (S.faults source.new) }
     ensures long { result ≡ Err ReadRefused.TooLong → WasLong (S.left source.old) (S.left source.new) limit }
+    ensures not_long { result ≢ Err ReadRefused.TooLong → TookAtMost (S.left source.old) (S.left source.new) limit }
+    ensures most { TookAtMost (S.left source.old) (S.left source.new) (limit + 1) }
     ensures later { S.faults source.old ≤ S.faults source.new }
 {
     let most = limit as usize + 1;
     let mut bytes = Vec::new(alloc);
     let mut piece = [0u8; PIECE];
-    while bytes.len() < most {
+    'pieces: loop {
         let room = PIECE.min(most - bytes.len());
         let Ok(count) = source.read(&mut piece[..room]) else {
             return Err(ReadRefused::ReadFault);
@@ -49,9 +51,11 @@ pub fn read_all<S: Source>(
         if count == 0 {
             return Ok(Items::from_vec(bytes));
         }
+        if bytes.len() + count == most {
+            return Err(ReadRefused::TooLong);
+        }
         if bytes.extend_from_slice(&piece[..count]).is_err() {
             return Err(ReadRefused::NoMemory);
         }
     }
-    Err(ReadRefused::TooLong)
 }

@@ -15,7 +15,7 @@ pub trait Source {
 
     /// Puts the next bytes of the input at the front of `into`, and answers how many: at most the
     /// buffer's length, and 0 for a buffer with room only at the end of the input. It fails only
-    /// where the count of faults rises.
+    /// where the count of faults rises, and then takes nothing.
     fn read(&mut self, into: &mut [u8]) -> Result<usize, Failed>
         ensures bytes { ReadGives (left self.old) (left self.new) result into.new }
         ensures cause { HasCause (faults self.old) (faults self.new) result };

@@ -14,7 +14,8 @@ use Rattle.aol_shape.specs.Vectors.{wrapped, wrapped_point}
 use Rattle.aol_link.specs.declared.link.When.{When}
 use Rattle.aol_link.specs.declared.link.When.TheVariants.{Always, Low, High}
 use Rattle.aol_link.specs.declared.link.Choice.{Choice}
-use Rattle.aol_link.specs.Links.{stepped_back, is_inside, is_low, is_high, naturals, source_repetition, applies, is_always, ends_in_always}
+use Rattle.aol_shape.specs.Vectors.{is_inside}
+use Rattle.aol_link.specs.Links.{stepped_back, is_low, is_high, naturals, source_repetition, applies, is_always, ends_in_always}
 
 both : (a b : Bool) → (a && b) ≡ true → (a ≡ true) × (b ≡ true)
 both true b h = (refl, h)
@@ -112,7 +113,7 @@ positive_at [] k p h = absurd (omega (arith, h))
 positive_at (n ∷ space) zero p h = p.0.0
 positive_at (n ∷ space) (suc k) p h = positive_at space k p.1 (omega (arith, h))
 
--- behind a choice that is not for a vector the last one is still for all
+-- after a choice that is not for a vector the last one is still for all
 pub last_stays : (c : Choice) (cs : List Choice) (space : List ℕ) (q : List ℤ) → applies c.when space q ≡ false → ends_in_always (c ∷ cs) ≡ true → ends_in_always cs ≡ true
 last_stays c [] space q h e = absurd (never c.when h e)
   where

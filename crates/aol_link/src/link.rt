@@ -32,7 +32,9 @@ pub struct Interlink {
     pub to: Name,
     pub distance: IntVec,
     pub wrap: bool,
-    /// None where the link wraps.
+    /// What stands in for a repetition outside the space, the first choice that applies. There are no choices where the
+    /// link wraps. Else the last one, and no other, is `Always`: the rules on shapes and names keep that (the rule
+    /// `LAST_CHOICE_IS_ALWAYS`), and `choice` asks for it.
     pub rest: Items<Choice>,
 }
 

@@ -2,7 +2,8 @@ ghost use Rattle.std.specs.Prelude.{◌≡◌, ◌+◌, ◌^◌, ◌<◌, ◌-�
 ghost use Rattle.std.specs.List.{list_all, AllByRecursion};
 ghost use Rattle.aol_shape.specs.Shape.{IsEntry, IsPointOf};
 ghost use Rattle.aol_shape.specs.Vectors.{wrapped, wrapped_point};
-ghost use Rattle.aol_link.specs.Links.{stepped_back, is_inside, applies, first_choice_from, ends_in_always, is_below};
+ghost use Rattle.aol_shape.specs.Vectors.{is_inside};
+ghost use Rattle.aol_link.specs.Links.{stepped_back, applies, first_choice_from, ends_in_always, is_below};
 
 use crate::link::{Choice, When};
 

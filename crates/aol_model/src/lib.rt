@@ -1,30 +1,19 @@
-//! The document: its model and its job, read from JSON and written to it.
+//! The document: its model and its job, read from JSON, written to it, and tested by its rules.
+//!
+//! All of it stands in the crates below and is handed on from here.
+//!
+//! ```text
+//! let document = document_of(alloc, &tree)?;     // the document that a JSON tree stands for
+//! shapes_agree(alloc, &document.model)           // Ok: the rules on shapes and names hold
+//! ```
 #![tactic(auto)]
 
-mod agree;
-mod document;
-mod duplicate;
-mod job;
-mod laws;
-mod place;
-mod reading;
-mod shared;
-mod status;
-mod task;
-mod whole;
-mod writing;
-
-pub use agree::shapes_agree;
-pub use document::{DocRefused, Document, Misfit, Model};
-pub use job::{Entry, FuseArgs, InputArray, Job, PaveArgs, Pick, Step};
-pub use laws::documents_are_read_again;
-pub use place::{Key, Path, Place, PlaceStep};
-pub use reading::document_of;
-pub use shared::{documents_are_shared, types_are_shared};
-pub use status::limit_text;
-pub use task::{Compound, Copied, Elementary, Hook, OutPort, Part, Plain, Repeated, Task, TilerOn};
-pub use whole::{read_trees_are_held, reading_shows};
-pub use writing::value_of;
-
-#[cfg(test)]
-mod tests;
+pub use aol_document::{
+    document_of, documents_are_read_again, read_trees_are_held, reading_shows, value_of,
+};
+pub use aol_model_types::{
+    Compound, Copied, DocRefused, Document, Elementary, Entry, FuseArgs, Hook, InputArray, Job,
+    Key, Misfit, Model, OutPort, Part, Path, PaveArgs, Pick, Place, PlaceStep, Plain, Repeated,
+    Step, Task, TilerOn, documents_are_shared, limit_text, types_are_shared,
+};
+pub use aol_rules::shapes_agree;

@@ -1,6 +1,6 @@
 -- Lists of cells after a claim, a put and a settlement, and those of a whole field.
 use Rattle.std.proofs.Common.{◌≡◌, ℕ, zero, suc, ◌+◌, ◌-◌, ◌<◌, ◌≤◌, ◌⊎◌, List, [], ◌∷◌, ◌++◌, map, length, get_or, set, replicate, Option, Some, None, Bool, true, false, eqb, ◌||◌, cond, refl, sym, ap, ◌∙◌, subst, arith, All, Contains}
-use Rattle.std.proofs.lemmas.List.{get_or-set_same, get_or-set_other, get_or-replicate, length-replicate}
+use Rattle.std.proofs.lemmas.List.{get_or-set_same, get_or-set_other, get_or-replicate, length-map, length-replicate}
 use Rattle.std.proofs.lemmas.Bool.{eq-eqb, eqb-true, ne_eqb, cases_eq, false≢true}
 use mathlib.Core.Logic.{inl, inr}
 use Rattle.core.specs.List.{cons_option}
@@ -40,8 +40,8 @@ pub unlisted : (k : ℕ) (ns : List ℕ) → ¬ Contains ns k → is_listed k ns
 unlisted k [] out = refl
 unlisted k (n ∷ ns) out = ap (λ t. t || is_listed k ns) (ne_eqb k n (λ e. out (0, omega arith, sym e))) ∙ unlisted k ns (λ at. out (suc at.0, omega (arith, at.1), at.2))
 
-distinct_behind : (k : ℕ) (ks : List ℕ) → AreDistinct (k ∷ ks) → AreDistinct ks
-distinct_behind k ks apart = λ i j d lt inside. apart (suc i) (suc j) d (omega arith) (omega arith)
+distinct_rest : (k : ℕ) (ks : List ℕ) → AreDistinct (k ∷ ks) → AreDistinct ks
+distinct_rest k ks apart = λ i j d lt inside. apart (suc i) (suc j) d (omega arith) (omega arith)
 
 same_map : {Y : Type 0} (f g : ℕ → Y) (ks : List ℕ) → ((j : ℕ) → j < length ks → f (get_or ks j 0) ≡ g (get_or ks j 0)) → map f ks ≡ map g ks
 same_map f g [] same = refl
@@ -51,8 +51,8 @@ module _ {X : Type 0} where
   abbrev Holds : List (Option X) → List ℕ → Type 0
   Holds cs ks = All (λ k. IsHeld cs k) ks
 
-  behind : (cs : List (Option X)) (k : ℕ) (ks : List ℕ) → Holds cs (k ∷ ks) → Holds cs ks
-  behind cs k ks all = λ j d lt. all (suc j) d (omega arith)
+  holds_rest : (cs : List (Option X)) (k : ℕ) (ks : List ℕ) → Holds cs (k ∷ ks) → Holds cs ks
+  holds_rest cs k ks all = λ j d lt. all (suc j) d (omega arith)
 
   get_or-picked : (i : ℕ) (ns : List ℕ) (cs : List (Option X)) (k : ℕ) → cell (picked_from i ns cs) k ≡ cond (is_listed (i + k) ns) (cell cs k) None
   get_or-picked i ns [] k = sym (same_either_way (is_listed (i + k) ns) None)
@@ -85,14 +85,18 @@ module _ {X : Type 0} where
   map_values cs [] all = refl
   map_values cs (k ∷ ks) all =
       let here = all 0 0 (omega arith) in let x = here.0 in
-      ap (λ o. map Some (cons_option o (values_at cs ks))) here.1 ∙ ap (λ l. Some x ∷ l) (map_values cs ks (behind cs k ks all)) ∙ ap (λ o. o ∷ map (λ m. cell cs m) ks) (sym here.1)
+      ap (λ o. map Some (cons_option o (values_at cs ks))) here.1 ∙ ap (λ l. Some x ∷ l) (map_values cs ks (holds_rest cs k ks all)) ∙ ap (λ o. o ∷ map (λ m. cell cs m) ks) (sym here.1)
+
+  -- a share has as many values as cells
+  pub length-values : (cs : List (Option X)) (ks : List ℕ) → Holds cs ks → length (values_at cs ks) ≡ length ks
+  length-values cs ks all = sym (length-map (values_at cs ks) Some) ∙ ap length (map_values cs ks all) ∙ length-map ks (λ k. cell cs k)
 
   -- at a get of a share
   pub value_get : (cs : List (Option X)) (ks : List ℕ) (j : ℕ) (x d : X) → Holds cs ks → j < length ks → cell cs (get_or ks j 0) ≡ Some x → get_or (values_at cs ks) j d ≡ x
   value_get cs [] j x d all lt e = absurd (omega arith)
   value_get cs (k ∷ ks) zero x d all lt e = ap (λ o. get_or (cons_option o (values_at cs ks)) 0 d) e
   value_get cs (k ∷ ks) (suc j) x d all lt e = let here = all 0 0 (omega arith) in
-      ap (λ o. get_or (cons_option o (values_at cs ks)) (suc j) d) here.1 ∙ value_get cs ks j x d (behind cs k ks all) (omega arith) e
+      ap (λ o. get_or (cons_option o (values_at cs ks)) (suc j) d) here.1 ∙ value_get cs ks j x d (holds_rest cs k ks all) (omega arith) e
 
   -- at a put
   pub value_set : (cs : List (Option X)) (ks : List ℕ) (j : ℕ) (v : X) → AreDistinct ks → Holds cs ks → j < length ks → values_at (set cs (get_or ks j 0) (Some v)) ks ≡ set (values_at cs ks) j v
@@ -105,7 +109,7 @@ module _ {X : Type 0} where
   value_set cs (k ∷ ks) (suc j) v apart all lt =
       let here = all 0 0 (omega arith) in let x = here.0 in let rest = values_at cs ks in let m = get_or ks j 0 in let ds = set cs m (Some v) in
       ap (λ o. cons_option o (values_at ds ks)) (get_or-set_other cs m k (Some v) None (apart 0 (suc j) 0 (omega arith) (omega arith)) ∙ here.1)
-      ∙ ap (λ l. x ∷ l) (value_set cs ks j v (distinct_behind k ks apart) (behind cs k ks all) (omega arith))
+      ∙ ap (λ l. x ∷ l) (value_set cs ks j v (distinct_rest k ks apart) (holds_rest cs k ks all) (omega arith))
       ∙ ap (λ o. set (cons_option o rest) (suc j) v) (sym here.1)
 
   pub holds_set : (cs : List (Option X)) (ks : List ℕ) (m : ℕ) (v : X) → m < length cs → Holds cs ks → Holds (set cs m (Some v)) ks
@@ -141,22 +145,22 @@ module _ {X : Type 0} where
   merged_others cs ds ks le only k out = get_or-merged cs ds k le ∙ ap (λ o. later (cell cs k) o) (only k (unlisted k ks out))
 
   -- of a whole field
-  whole_behind : (c : Option X) (cs : List (Option X)) → IsWhole (c ∷ cs) → IsWhole cs
-  whole_behind c cs all = λ k lt. all (suc k) (omega arith)
+  whole_rest : (c : Option X) (cs : List (Option X)) → IsWhole (c ∷ cs) → IsWhole cs
+  whole_rest c cs all = λ k lt. all (suc k) (omega arith)
 
   pub map_held : (cs : List (Option X)) → IsWhole cs → map Some (values_held cs) ≡ cs
   map_held [] all = refl
   map_held (c ∷ cs) all = let here = all 0 (omega arith) in
-      ap (λ o. map Some (cons_option o (values_held cs))) here.1 ∙ ap (λ l. Some here.0 ∷ l) (map_held cs (whole_behind c cs all)) ∙ ap (λ o. o ∷ cs) (sym here.1)
+      ap (λ o. map Some (cons_option o (values_held cs))) here.1 ∙ ap (λ l. Some here.0 ∷ l) (map_held cs (whole_rest c cs all)) ∙ ap (λ o. o ∷ cs) (sym here.1)
 
   pub length-held : (cs : List (Option X)) → IsWhole cs → length (values_held cs) ≡ length cs
   length-held [] all = refl
-  length-held (c ∷ cs) all = ap (λ o. length (cons_option o (values_held cs))) (all 0 (omega arith)).1 ∙ ap suc (length-held cs (whole_behind c cs all))
+  length-held (c ∷ cs) all = ap (λ o. length (cons_option o (values_held cs))) (all 0 (omega arith)).1 ∙ ap suc (length-held cs (whole_rest c cs all))
 
   pub get_or-held : (cs : List (Option X)) (k : ℕ) (x d : X) → IsWhole cs → cell cs k ≡ Some x → get_or (values_held cs) k d ≡ x
   get_or-held [] k x d all e = cc
   get_or-held (c ∷ cs) zero x d all e = ap (λ o. get_or (cons_option o (values_held cs)) 0 d) e
-  get_or-held (c ∷ cs) (suc k) x d all e = ap (λ o. get_or (cons_option o (values_held cs)) (suc k) d) (all 0 (omega arith)).1 ∙ get_or-held cs k x d (whole_behind c cs all) e
+  get_or-held (c ∷ cs) (suc k) x d all e = ap (λ o. get_or (cons_option o (values_held cs)) (suc k) d) (all 0 (omega arith)).1 ∙ get_or-held cs k x d (whole_rest c cs all) e
 
   pub filled_whole : (n : ℕ) (x : X) → IsWhole (replicate n (Some x))
   filled_whole n x = λ k lt. (x, get_or-replicate n k (Some x) None (omega (arith, lt, length-replicate n (Some x))))

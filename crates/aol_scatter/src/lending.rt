@@ -50,7 +50,8 @@ impl<T> Model for Rest<T> {
     ghost invariant = { λ r. (r.part.at ≡ r.base.ptr) × (length r.part.cells ≡ r.len) × (r.deed.at ≡ r.base.ptr) × (r.deed.len ≡ r.len) × (r.deed.alloc ≡ r.alloc) };
 }
 
-/// Some cells of a field, in an order of their own. It cannot be dropped: `Rest::settle` takes it back.
+/// Some cells of a field, in an order of their own, and a value for each. It cannot be dropped:
+/// `Rest::settle` takes it back.
 pub struct Share<T> {
     base: Base<T>,
     part: Part<T>,
@@ -166,6 +167,7 @@ impl<T: Copy> Rest<T> {
         ensures name { (result.name ≡ self.old.name) × (self.new.name ≡ self.old.name) }
         ensures cells { result.cells ≡ cells }
         ensures values { map Some result.values ≡ map (λ k. cell self.old.cells k) cells }
+        ensures as_many { length result.values ≡ length result.cells }
         ensures rest { self.new.cells ≡ without cells self.old.cells }
     {
         let part = self.part.split(cells.as_slice());
@@ -174,6 +176,14 @@ impl<T: Copy> Rest<T> {
             part,
             cells,
         }
+    }
+
+    /// How many cells the field has, whether a share has them or not.
+    pub fn len(&self) -> u32
+        ensures cells { result ≡ length self.now.cells }
+        ensures name { result ≡ self.now.name.len }
+    {
+        self.len
     }
 
     /// What cell `k` of the field holds. No share has it.
@@ -194,6 +204,7 @@ impl<T: Copy> Rest<T> {
         ensures name { self.new.name ≡ self.old.name }
         ensures values { map (λ k. cell self.new.cells k) share.cells ≡ map Some share.values }
         ensures others { (k : ℕ) → ¬ Contains share.cells k → cell self.new.cells k ≡ cell self.old.cells k }
+        ensures len { length self.new.cells ≡ length self.old.cells }
     {
         let Share {
             base: _,
@@ -213,6 +224,7 @@ impl<T: Copy> Rest<T> {
         ensures name { self.new.name ≡ self.old.name }
         ensures values { All (λ s. map (λ k. cell self.new.cells k) s.cells ≡ map Some s.values) shares.items }
         ensures others { (k : ℕ) → All (λ s. ¬ Contains s.cells k) shares.items → cell self.new.cells k ≡ cell self.old.cells k }
+        ensures len { length self.new.cells ≡ length self.old.cells }
     {
         let mut shares = shares;
         while let Some(share) = shares.pop() {
@@ -245,11 +257,20 @@ impl<T: Copy> Rest<T> {
 }
 
 impl<T: Copy> Share<T> {
+    /// How many cells the share has. It has as many values.
+    pub fn len(&self) -> usize
+        ensures cells { result ≡ length self.now.cells }
+        ensures values { result ≡ length self.now.values }
+    {
+        self.cells.len()
+    }
+
     /// Writes the share's cell at place `j` of its list, and that cell alone.
     pub fn put(&mut self, j: u32, value: T)
         requires { j < length self.old.cells }
         ensures same { (self.new.name ≡ self.old.name) × (self.new.cells ≡ self.old.cells) }
         ensures values { self.new.values ≡ slice_set self.old.values j value }
+        ensures as_many { length self.new.values ≡ length self.new.cells }
     {
         let cells = self.cells.as_slice();
         let k = cells[j as usize];
@@ -259,7 +280,8 @@ impl<T: Copy> Share<T> {
     /// What the share's cell at place `j` of its list holds: what was last put there, or what it held when it was claimed.
     pub fn get(&self, j: u32) -> T
         requires { j < length self.now.cells }
-        ensures { result ≡ slice_index_or self.now.values j result }
+        ensures value { result ≡ slice_index_or self.now.values j result }
+        ensures as_many { length self.now.values ≡ length self.now.cells }
     {
         let cells = self.cells.as_slice();
         let k = cells[j as usize];

@@ -11,10 +11,12 @@
 
 mod lending;
 mod part;
+mod sent;
 
 pub use lending::{Field, Rest, Share};
 #[doc(hidden)]
 pub use part::{Base, Deed, Part};
-
-#[cfg(test)]
-mod tests;
+pub use sent::{
+    fields_are_sent, fields_are_shared, rests_are_sent, rests_are_shared, shares_are_sent,
+    shares_are_shared,
+};

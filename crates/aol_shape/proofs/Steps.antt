@@ -1,4 +1,4 @@
--- Points and their ranks with one more index, in front or behind.
+-- Points and their ranks with one more index, in front or after.
 use Rattle.std.proofs.Common.{◌≡◌, ℕ, ◌+◌, ◌*◌, ◌<◌, ◌≤◌, ◌↔◌, length, take, drop, set, get_or, List, [], ◌∷◌, ◌++◌, Bool, true, false, IsTrue, refl, sym, ◌∙◌, ap, subst, arith, append_assoc, add-one, drop-cons, ◌/◌, ◌%◌}
 use Rattle.std.specs.Bool.{OnTrue, OnFalse}
 use Rattle.std.proofs.Math.Nat.{mul-le-mul_left, mul-le-mul_right, mul_assoc, mul-div_cancel_left, mod-lt}
@@ -15,7 +15,7 @@ pub record AreBegun (shape point s p : List ℕ) (n i : ℕ) : Type 0 where
   pub inside : IsPointOf shape point
   pub entries : AllByRecursion IsEntry shape
 
--- what the recursion over both needs, behind indices whose rank is `before`
+-- what the recursion over both needs, after indices whose rank is `before`
 pub record GoesOn (shape point s p : List ℕ) (before n i : ℕ) : Type 0 where
   pub inside : IsPointOf s p
   pub entries : AllByRecursion IsEntry s
@@ -41,7 +41,7 @@ goes_on {shape} {point} {s} {p} {n} {i} begun before few =
     (subst (λ q. IsPointOf (n ∷ s) q) begun.point_is (subst (λ e. IsPointOf e point) begun.shape_is begun.inside))
     (subst (AllByRecursion IsEntry) begun.shape_is begun.entries) (omega (arith, few, ap (λ e. (before + 1) * size e) begun.shape_is))))
 
--- what finding the indices one after another needs: the points behind the next entry, and the rank among them
+-- what finding the indices one after another needs: the points after the next entry, and the rank among them
 pub record Unranks (d front whole : List ℕ) (b x : ℕ) : Type 0 where
   pub behind : b ≡ size d
   pub within : x < b

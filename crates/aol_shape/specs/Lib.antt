@@ -5,6 +5,7 @@ pub mod Joined
 pub mod Laws
 pub mod Vectors
 pub mod Texts
+pub mod Lines
 pub mod Tokens
 pub mod Grammar
 pub mod Machine

@@ -2,6 +2,7 @@ ghost use Rattle.std.specs.Prelude.{◌≡◌, ◌≤◌, ◌↔◌, length, IsT
 ghost use Rattle.std.specs.List.{AllByRecursion};
 ghost use Rattle.aol_shape.specs.Vectors.{IsVector, IsVectorEntry};
 
+use crate::limit::{MAX_RANK, MAX_VECTOR_ENTRY};
 use smallvec::SmallVec;
 use std::alloc::Global;
 use std::marker::Model;
@@ -30,7 +31,7 @@ fn are_entries(entries: &[i32]) -> bool
 {
     match entries.split_first() {
         None => true,
-        Some((first, rest)) => *first >= -2147483647 && are_entries(rest),
+        Some((first, rest)) => *first >= -(MAX_VECTOR_ENTRY as i32) && are_entries(rest),
     }
 }
 
@@ -40,7 +41,7 @@ impl IntVec {
         ensures some { IfSome result (λ v. (v ≡ entries.now) × IsVector entries.now) }
         ensures none { IfNone result (¬ IsVector entries.now) }
     {
-        if entries.len() > 12 || !are_entries(entries) {
+        if entries.len() > MAX_RANK || !are_entries(entries) {
             return None;
         }
         match SmallVec::from_slice(alloc, entries) {

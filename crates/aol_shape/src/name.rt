@@ -1,5 +1,7 @@
 ghost use Rattle.std.specs.Prelude.{◌≡◌, IfOk, string_bytes};
+ghost use Rattle.aol_shape.specs.Lists.{same};
 
+use crate::letters::is_same;
 use crate::memory::NoMemory;
 use std::alloc::Global;
 use std::marker::Model;
@@ -48,4 +50,19 @@ impl Name {
     {
         self.text.as_str()
     }
+
+    /// The text, taken out of the name. It takes no memory.
+    pub fn into_string(self) -> String
+        ensures { string_bytes result ≡ self }
+    {
+        let Name { text } = self;
+        text
+    }
+}
+
+/// Whether two names are the same text.
+pub fn are_same(one: &Name, other: &Name) -> bool
+    ensures { result ≡ same one.now other.now }
+{
+    is_same(one.as_str(), other.as_str())
 }

@@ -1,5 +1,6 @@
 ghost use Rattle.std.specs.Prelude.{◌≡◌, ◌≤◌, length, IfSome, IfNone};
 
+use crate::limit::MAX_RANK;
 use smallvec::SmallVec;
 use std::alloc::Global;
 use std::marker::Model;
@@ -12,21 +13,22 @@ pub struct Point {
 
 impl Model for Point {
     ghost use Rattle.std.specs.Prelude.{List, ℕ, ◌≤◌, length};
+    ghost use Rattle.aol_shape.specs.declared.limit.TheConstants.{MAX_RANK};
 
     ghost Value = { List ℕ };
 
     ghost view = { λ p. p.indices.items };
 
-    ghost invariant = { λ p. length p.indices.items ≤ 12 };
+    ghost invariant = { λ p. length p.indices.items ≤ MAX_RANK };
 }
 
 impl Point {
     /// The point with these indices; none where they are more than 12. It takes no memory.
     pub fn new(alloc: Global, entries: &[u32]) -> Option<Point>
         ensures some { IfSome result (λ p. p ≡ entries.now) }
-        ensures none { IfNone result (¬ (length entries.now ≤ 12)) }
+        ensures none { IfNone result (¬ (length entries.now ≤ MAX_RANK)) }
     {
-        if entries.len() > 12 {
+        if entries.len() > MAX_RANK {
             return None;
         }
         match SmallVec::from_slice(alloc, entries) {

@@ -16,7 +16,7 @@ pub fn rank_of(shape: &Shape, point: &[u32]) -> u32
     ranked(0, shape.as_slice(), point) as u32
 }
 
-/// The rank behind indices whose rank is `before`.
+/// The rank after indices whose rank is `before`.
 fn ranked(before: u64, shape: &[u32], point: &[u32]) -> u64
     requires inside { IsPointOf shape.now point.now }
     requires entries { AllByRecursion IsEntry shape.now }

@@ -3,6 +3,7 @@ ghost use Rattle.std.specs.List.{AllByRecursion};
 ghost use Rattle.aol_shape.specs.Shape.{IsShape, IsEntry, size};
 ghost use Rattle.aol_shape.specs.Joined.{Joins};
 
+use crate::limit::{MAX_POINTS, MAX_RANK};
 use smallvec::SmallVec;
 use std::alloc::Global;
 use std::marker::Model;
@@ -39,18 +40,18 @@ pub enum ShapeRefused {
 #[tactic(auto, using(crate::proofs::Sizes::product_fails))]
 fn goes_on(points: u64, entries: &[u32]) -> bool
     requires least { 1 ≤ points }
-    requires most { points ≤ 4194304 }
-    ensures { IsTrue result ↔ (AllByRecursion IsEntry entries.now × (points * size entries.now ≤ 4194304)) }
+    requires most { points ≤ MAX_POINTS }
+    ensures { IsTrue result ↔ (AllByRecursion IsEntry entries.now × (points * size entries.now ≤ MAX_POINTS)) }
 {
     match entries.split_first() {
         None => true,
         Some((first, rest)) => {
             let first = u64::from(*first);
-            if first < 1 || first > 4194304 {
+            if first < 1 || first > u64::from(MAX_POINTS) {
                 return false;
             }
             let next = points * first;
-            if next > 4194304 {
+            if next > u64::from(MAX_POINTS) {
                 return false;
             }
             goes_on(next, rest)
@@ -62,7 +63,7 @@ fn goes_on(points: u64, entries: &[u32]) -> bool
 fn is_shape(entries: &[u32]) -> bool
     ensures { IsTrue result ↔ IsShape entries.now }
 {
-    entries.len() <= 12 && goes_on(1, entries)
+    entries.len() <= MAX_RANK && goes_on(1, entries)
 }
 
 impl Shape {
@@ -103,7 +104,7 @@ impl Shape {
     pub fn size(&self) -> u32
         ensures points { result ≡ size self.now }
         ensures least { 1 ≤ result }
-        ensures most { result ≤ 4194304 }
+        ensures most { result ≤ MAX_POINTS }
     {
         product(1, self.as_slice()) as u32
     }
@@ -113,7 +114,7 @@ impl Shape {
 #[tactic(auto, using(crate::proofs::Sizes::product_stays, crate::proofs::Sizes::product_moves))]
 fn product(points: u64, entries: &[u32]) -> u64
     requires entries { AllByRecursion IsEntry entries.now }
-    requires few { points * size entries.now ≤ 4194304 }
+    requires few { points * size entries.now ≤ MAX_POINTS }
     ensures { result ≡ points * size entries.now }
 {
     match entries.split_first() {
@@ -129,11 +130,11 @@ pub fn joined(first: &Shape, second: &Shape) -> Result<Shape, ShapeRefused>
     ensures { Joins result first.now second.now }
 {
     let (one, other) = (first.as_slice(), second.as_slice());
-    if one.len() + other.len() > 12 {
+    if one.len() + other.len() > MAX_RANK {
         return Err(ShapeRefused::Rank);
     }
     let points = u64::from(first.size()) * u64::from(second.size());
-    if points > 4194304 {
+    if points > u64::from(MAX_POINTS) {
         return Err(ShapeRefused::Points);
     }
     let Ok(mut entries) = SmallVec::from_slice(*first.entries.allocator(), one) else {

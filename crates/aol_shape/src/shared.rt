@@ -6,16 +6,29 @@ use crate::point::Point;
 use crate::shape::{Shape, ShapeRefused};
 use sqlite_items::Items;
 
-fn is_shared<T: Send + Sync>() {}
+fn is_sent<T: Send>() {}
 
-/// The types of this crate can be sent to threads and shared among them; lists where their items can.
-pub fn types_are_shared<T: Send + Sync>() {
-    is_shared::<Shape>();
-    is_shared::<Point>();
-    is_shared::<IntVec>();
-    is_shared::<Name>();
-    is_shared::<LimitName>();
-    is_shared::<NoMemory>();
-    is_shared::<ShapeRefused>();
+fn is_shared<T: Sync>() {}
+
+fn is_both<T: Send + Sync>() {}
+
+/// The types of this crate can be sent to threads and shared among them.
+pub fn types_are_shared() {
+    is_both::<Shape>();
+    is_both::<Point>();
+    is_both::<IntVec>();
+    is_both::<Name>();
+    is_both::<LimitName>();
+    is_both::<NoMemory>();
+    is_both::<ShapeRefused>();
+}
+
+/// A list can be sent to a thread where its items can.
+pub fn lists_are_sent<T: Send>() {
+    is_sent::<Items<T>>();
+}
+
+/// A list can be shared among threads where its items can.
+pub fn lists_are_shared<T: Sync>() {
     is_shared::<Items<T>>();
 }

@@ -17,7 +17,7 @@ plus_swap (z ∷ v) (x ∷ a) (y ∷ b) =
     let first : (z +ℤ x) +ℤ y ≡ (z +ℤ y) +ℤ x = omega (arith, ints) in
     ap (λ w. w ∷ plus (plus v a) b) first ∙ ap (λ w. ((z +ℤ y) +ℤ x) ∷ w) (plus_swap v a b)
 
--- a vector may be added before the columns or behind them
+-- a vector may be added before the columns or after them
 pub plus_columns-plus : (v w : List ℤ) (cs : List (List ℤ)) (xs : List ℤ) → plus_columns (plus v w) cs xs ≡ plus (plus_columns v cs xs) w
 plus_columns-plus v w [] xs = refl
 plus_columns-plus v w (c ∷ cs) [] = refl

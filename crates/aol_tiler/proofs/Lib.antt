@@ -10,7 +10,6 @@ pub mod Ranked
 pub mod Residues
 pub mod Rows
 pub mod Started
-pub mod Tried
 pub mod UnitColumns
 pub mod Walked
 pub mod Walks

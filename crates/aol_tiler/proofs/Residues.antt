@@ -1,4 +1,4 @@
--- Places kept modulo an array, each entry times the size of what is behind it.
+-- Places kept modulo an array, each entry times the size of what is after it.
 use Rattle.std.proofs.Common.{◌≡◌, ℕ, ◌+◌, ◌-◌, ◌*◌, ◌^◌, ◌%◌, ◌<◌, ◌≤◌, ℤ, pos, negsuc, ◌+ℤ◌, ◌*ℤ◌, List, [], ◌∷◌, ◌++◌, length, sum, refl, sym, ◌∙◌, ap, arith, ◌⊎◌, inl, inr}
 use Rattle.std.specs.List.{AllByRecursion}
 use Rattle.std.specs.Prelude.{nat_le, nat_abs}
@@ -80,7 +80,7 @@ wrapped-plus z w n h =
     ∙ add-mod-mod a.number b.number n
     ∙ sym (wrapped_is (z +ℤ w) n (a.times + b.times) (a.number + b.number) h whole)
 
--- a step added to a place, whatever stands behind the step
+-- a step added to a place, whatever stands after the step
 pub residues-plus : (array : List ℕ) (z w : List ℤ) (pad : List ℕ) → AllByRecursion IsEntry array → length z ≡ length array → length w ≡ length array
     → plus_within (residues array z) (moduli_of array) (residues array w ++ pad) ≡ residues array (plus z w)
 residues-plus [] z w pad p e f = refl

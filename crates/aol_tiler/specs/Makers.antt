@@ -20,7 +20,7 @@ MakesVector place (Ok v) made = (v ≡ made) × (first_out_of place made ≡ Non
 MakesVector place (Err (Entry at)) made = first_out_of place made ≡ Some at
 MakesVector place (Err NoMemory) made = ⊥
 
--- the columns that are to be made stand behind the old ones, where all their entries are in range, and the answer is the number of the entry behind them; else it is the number of the first that isn't
+-- the columns that are to be made stand after the old ones, where all their entries are in range, and the answer is the number of the entry after them; else it is the number of the first that isn't
 abbrev pub Extends : Result ℕ TilerRefused → List (List ℤ) → List (List ℤ) → ℕ → List (List ℤ) → Type 0
 Extends (Ok next) old new place made = (new ≡ old ++ made) × (next ≡ place + length (flat made)) × (next ≤ place + 12 * length made) × (first_out_of place (flat made) ≡ None) × AllByRecursion IsVector made
 Extends (Err (Entry at)) old new place made = first_out_of place (flat made) ≡ Some at

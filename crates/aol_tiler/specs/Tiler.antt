@@ -79,7 +79,7 @@ substituted t by = record {
   fitting = map (plus_columns (zero_like t.origin) t.paving) by.fitting ++ t.fitting;
 }
 
--- the unit vectors of a list of dimensions, with `before` zeros in front and `after` zeros behind
+-- the unit vectors of a list of dimensions, with `before` zeros in front and `after` zeros after
 abbrev pub unit_columns : List ℤ → List ℕ → List ℤ → List (List ℤ)
 unit_columns before [] after = []
 unit_columns before (n ∷ shape) after = (before ++ pos 1 ∷ zeros shape ++ after) ∷ unit_columns (before ++ pos 0 ∷ []) shape after

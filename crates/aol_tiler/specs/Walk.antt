@@ -50,18 +50,18 @@ pub record IsWalk (ms p : List ℕ) (cs : List Column) : Type 0 where
   pub place : AreWithin p ms
   pub columns : AllByRecursion (IsColumn ms) cs
 
--- an array's moduli: each entry times the size of what is behind it
+-- an array's moduli: each entry times the size of what is after it
 abbrev pub moduli_of : List ℕ → List ℕ
 moduli_of [] = []
 moduli_of (n ∷ array) = n * size array ∷ moduli_of array
 
--- a vector modulo an array, each entry times the size of what is behind it
+-- a vector modulo an array, each entry times the size of what is after it
 abbrev pub residues : List ℕ → List ℤ → List ℕ
 residues [] zs = []
 residues (n ∷ array) [] = []
 residues (n ∷ array) (z ∷ zs) = wrapped z n * size array ∷ residues array zs
 
--- behind an array's entries there are zeros
+-- after an array's entries there are zeros
 abbrev pub padded : List ℕ → List ℕ → List ℕ
 padded array xs = xs ++ drop (length array) (replicate 12 0)
 

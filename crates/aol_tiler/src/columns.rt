@@ -87,7 +87,7 @@ pub fn combined(
     }
 }
 
-/// Pushes a vector plus each column times its number, and answers the number of the entry behind it.
+/// Pushes a vector plus each column times its number, and answers the number of the entry after it.
 #[tactic(auto, using(crate::proofs::Extends::extends_one, crate::proofs::Extends::extends_out))]
 fn push_combined(
     alloc: Global,
@@ -109,7 +109,7 @@ fn push_combined(
     Ok(place + start.len() as u32)
 }
 
-/// Pushes the columns as they are, and answers the number of the entry behind them.
+/// Pushes the columns as they are, and answers the number of the entry after them.
 #[tactic(auto, using(crate::proofs::Extends::extends_none, crate::proofs::Extends::extends_then, crate::proofs::Extends::extends_stops))]
 pub fn push_copies(
     alloc: Global,
@@ -129,7 +129,7 @@ pub fn push_copies(
     }
 }
 
-/// Pushes what a matrix with these columns makes of each vector, and answers the number of the entry behind them.
+/// Pushes what a matrix with these columns makes of each vector, and answers the number of the entry after them.
 #[tactic(auto, using(crate::proofs::Extends::extends_none, crate::proofs::Extends::extends_then, crate::proofs::Extends::extends_stops))]
 pub fn push_mapped(
     alloc: Global,
@@ -154,7 +154,7 @@ pub fn push_mapped(
     }
 }
 
-/// Pushes each column times its factor, and answers the number of the entry behind them.
+/// Pushes each column times its factor, and answers the number of the entry after them.
 #[tactic(auto, using(crate::proofs::Extends::extends_none, crate::proofs::Extends::extends_then, crate::proofs::Extends::extends_stops))]
 pub fn push_scaled(
     alloc: Global,

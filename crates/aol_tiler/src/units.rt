@@ -6,7 +6,7 @@ use crate::tiler::IntMat;
 use aol_shape::IntVec;
 use std::alloc::{AllocError, Global};
 
-/// Pushes the unit vectors of these dimensions, with so many zeros in front and behind.
+/// Pushes the unit vectors of these dimensions, with so many zeros in front and after.
 pub fn push_units(
     alloc: Global,
     made: &mut IntMat,

@@ -34,7 +34,7 @@ const NONE: Column = Column {
 
 /// The addresses of all pairs of a repetition and a pattern element that are still to come.
 ///
-/// Each index of the element's point is kept times the size of the dimensions behind it, so the address is their sum.
+/// Each index of the element's point is kept times the size of the dimensions after it, so the address is their sum.
 /// To go on, a column is added, and what reaches its modulus loses it.
 #[derive(Drop)]
 pub struct Walker {
@@ -205,7 +205,7 @@ fn write_moduli(array: &[u32], moduli: &mut [u32]) -> u32
     size
 }
 
-/// Writes a vector times a factor, modulo an array and each entry times the size of what is behind it, and answers the array's size.
+/// Writes a vector times a factor, modulo an array and each entry times the size of what is after it, and answers the array's size.
 #[tactic(auto, using(crate::proofs::Walks::residues_none, crate::proofs::Walks::residues_more))]
 fn write_residues(array: &[u32], vector: &[i32], factor: i64, places: &mut [u32]) -> u32
     requires entries { AllByRecursion IsEntry array.now }

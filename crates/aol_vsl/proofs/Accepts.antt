@@ -57,7 +57,7 @@ over_digits start gs (suc n) (b ∷ ds) h k =
     ∙ over_digits start gs n ds parts.1 (omega (arith, k))
     ∙ ap (λ m. Some (digits m ∷ gs)) (omega arith)
 
--- a byte that is no digit acts on what comes behind the digits
+-- a byte that is no digit acts on what comes after the digits
 pub past_digits : (n b : ℕ) (gs : List Goal) → is_digit b ≡ false → step (digits n ∷ gs) b ≡ step gs b
 past_digits zero b gs h = refl
 past_digits (suc n) b gs h = ap (λ t. cond t (Some (digits n ∷ gs)) (step gs b)) h
@@ -126,7 +126,7 @@ over_numeral start goals gs g (b ∷ bs) h = by_sign start goals gs g b bs (eqb 
 blank_is_no_digit : (b : ℕ) → is_blank b ≡ true → is_digit b ≡ false
 blank_is_no_digit = of_blank (λ b. is_digit b ≡ false) refl refl refl refl
 
--- behind a numeral, blanks and then a byte that is no digit act on what comes behind it
+-- after a numeral, blanks and then a byte that is no digit act on what comes after it
 pub past_numeral : (start gs : List Goal) (k c : ℕ) (gap rest : List ℕ) → Tolerates gs → list_all is_blank gap ≡ true → is_digit c ≡ false
     → run start (Some (digits k ∷ gs)) (gap ++ c ∷ rest) ≡ run start (step gs c) rest
 past_numeral start gs k c [] rest t h n = ap (λ o. run start o rest) (past_digits k c gs n)

@@ -2,7 +2,7 @@
 use Rattle.std.proofs.Common.{◌≡◌, ℕ, zero, suc, ◌+◌, ◌-◌, ◌*◌, ◌/◌, ◌%◌, ◌^◌, ◌<◌, ◌≤◌, ℤ, pos, negsuc, neg_ℤ, nat_abs, eqb, option_map, List, [], ◌∷◌, ◌++◌, length, map, Bool, true, false, cond, ◌&&◌, leb, decimal, Option, Some, None, Result, Ok, Err, refl, sym, ◌∙◌, ap, subst, arith, append_assoc}
 use Rattle.std.specs.Fmt.{signed_decimal}
 use Rattle.std.specs.List.{list_all, join_with_byte, AllByRecursion}
-use Rattle.std.proofs.lemmas.Bool.{and_from, and_parts, le-leb, lt-leb}
+use Rattle.std.proofs.lemmas.Bool.{and_from, and_parts, le-leb, lt-leb, lt-ltb}
 use Rattle.std.proofs.Math.Nat.{mul-le-mul_left, mul_assoc}
 use Rattle.std.proofs.lemmas.List.{length-append}
 use Rattle.std.proofs.lemmas.Fmt.{decimal_by_steps, length-decimal-le}
@@ -15,10 +15,11 @@ use Rattle.aol_shape.specs.Texts.{is_digit, are_digits, digits_value, digits_val
 use Rattle.aol_shape.specs.Tokens.{first_passing, first_passing_from, separated, sign}
 use Rattle.aol_shape.specs.Machine.{stuck_at}
 use Rattle.aol_shape.specs.Grammar.{Grammar, TextFault, start_of, limited, reading}
+use Rattle.aol_shape.proofs.Numerals.{IsNumeralOf, decimal_says, decimal_digits, plain_numeral}
+use Rattle.aol_shape.proofs.Numerals.{signed_numeral as numeral_of}
 use Rattle.aol_shape.proofs.Stuck.{not_stuck}
 use Rattle.aol_vsl.specs.Text.{Numeral, braced_text, shape_text, vector_text, vector_limit, shape_limit, vector_members, shape_members, shape_grammar, vector_grammar}
 use Rattle.aol_vsl.specs.Reading.{recognizer, vector_goals, numerals, shape_reading, vector_reading}
-use Rattle.aol_vsl.proofs.Sound.{are_digits_by, digit_is_no_minus}
 use Rattle.aol_vsl.proofs.Spaced.{Spaced, more_texts, vector_texts}
 use Rattle.aol_vsl.proofs.Lexemes.{lexed}
 use Rattle.aol_vsl.proofs.Limits.{answer, limited_is}
@@ -26,47 +27,10 @@ use Rattle.aol_vsl.proofs.Grammars.{Spells, spells_accepted, spelled_numerals}
 
 -- ---- numerals
 
-all_both : (p : ℕ → Bool) (xs ys : List ℕ) → list_all p xs ≡ true → list_all p ys ≡ true → list_all p (xs ++ ys) ≡ true
-all_both p [] ys h k = k
-all_both p (x ∷ xs) ys h k =
-    let parts : (p x ≡ true) × (list_all p xs ≡ true) = and_parts (p x) (list_all p xs) h in
-    and_from (p x) (list_all p (xs ++ ys)) parts.0 (all_both p xs ys parts.1 k)
-
-value_push : (n : ℕ) (ds : List ℕ) (b : ℕ) → digits_value_from n (ds ++ b ∷ []) ≡ 10 * digits_value_from n ds + (b - 48)
-value_push n [] b = refl
-value_push n (d ∷ ds) b = value_push (10 * n + (d - 48)) ds b
-
-digit_is : (n : ℕ) → n < 10 → is_digit (48 + n) ≡ true
-digit_is n h = and_from (leb 48 (48 + n)) (leb (48 + n) 57) (le-leb 48 (48 + n) (omega arith)) (le-leb (48 + n) 57 (omega (arith, h)))
-
--- digits that say a number
-abbrev Says : ℕ → List ℕ → Type 0
-Says n ds = (list_all is_digit ds ≡ true) × (1 ≤ length ds) × (digits_value ds ≡ n)
-
-decimal_says : (n : ℕ) → n < 2 ^ 64 → Says n (decimal n)
-decimal_says = decimal_by_steps Says
-    (λ n h. (and_from (is_digit (48 + n)) true (digit_is n h) refl, omega arith, omega (arith, h)))
-    (λ n ds h s. (all_both is_digit ds ((48 + n % 10) ∷ []) s.0 (and_from (is_digit (48 + n % 10)) true (digit_is (n % 10) (omega arith)) refl), omega (arith, length-append ds ((48 + n % 10) ∷ [])), value_push 0 ds (48 + n % 10) ∙ omega (arith, s.2)))
-
-small : (n : ℕ) → n ≤ 2147483647 → length (decimal n) ≤ 19
-small n h = length-decimal-le 19 n (omega arith) (omega (arith, h)) (omega (arith, h))
-
-decimal_digits : (n : ℕ) → n ≤ 2147483647 → are_digits (decimal n) ≡ true
-decimal_digits n h = let s : Says n (decimal n) = decimal_says n (omega (arith, h)) in are_digits_by (decimal n) s.1 (small n h) s.0
-
--- a numeral, and the number that it says
-abbrev IsNumeralOf : ℤ → Numeral → Type 0
-IsNumeralOf z n = (is_numeral n ≡ true) × (numeral_value n ≡ z)
-
-plain_numeral : (n : ℕ) (ds : List ℕ) → Says n ds → are_digits ds ≡ true → IsNumeralOf (pos n) ds
-plain_numeral n [] s h = absurd (omega (arith, s.1))
-plain_numeral n (b ∷ bs) s h =
-    let minus : eqb b 45 ≡ false = digit_is_no_minus b (and_parts (is_digit b) (list_all is_digit bs) s.0).0 in
-    (ap (λ t. are_digits (cond t bs (b ∷ bs))) minus ∙ h, ap (λ t. cond t (neg_ℤ (pos (digits_value (cond t bs (b ∷ bs))))) (pos (digits_value (b ∷ bs)))) minus ∙ ap pos s.2)
-
+-- a numeral of a vector's entry
 pub signed_numeral : (z : ℤ) → nat_abs z ≤ 2147483647 → IsNumeralOf z (signed_decimal z)
-signed_numeral (pos n) h = plain_numeral n (decimal n) (decimal_says n (omega (arith, h))) (decimal_digits n h)
-signed_numeral (negsuc n) h = (decimal_digits (suc n) h, ap (λ m. neg_ℤ (pos m)) (decimal_says (suc n) (omega (arith, h))).2)
+signed_numeral (pos n) h = numeral_of (pos n) (lt-ltb n 9223372036854775808 (omega (arith, h)))
+signed_numeral (negsuc n) h = numeral_of (negsuc n) (lt-ltb n 9223372036854775808 (omega (arith, h)))
 
 -- ---- spelled texts
 

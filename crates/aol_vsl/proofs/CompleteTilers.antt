@@ -11,7 +11,7 @@ use Rattle.aol_vsl.proofs.Parts.{sign_allows}
 use Rattle.aol_vsl.proofs.Spaced.{Front, Spaced, more_texts, first_texts, vector_texts, more_columns, first_columns, matrix_texts, name_texts, tiler_texts}
 use Rattle.aol_vsl.proofs.SoundTilers.{glued}
 
--- the texts in front, and those behind them
+-- the texts in front, and those after them
 front_split : (ts us : List (List ℕ)) (bs rest : List ℕ) → Front (ts ++ us) bs rest → (mid : List ℕ) × Front ts bs mid × Front us mid rest
 front_split [] us bs rest f = (bs, refl, f)
 front_split (t ∷ ts) us bs rest f = let r : (mid : List ℕ) × Front ts f.1 mid × Front us mid rest = front_split ts us f.1 rest f.4 in (r.0, (f.0, f.1, f.2, f.3, r.1), r.2)
@@ -30,7 +30,7 @@ same_step : (c : ℕ) (gs : List Goal) (other : Option (List Goal)) → cond (eq
 same_step c gs other = ap (λ t. cond t (Some gs) other) (eq-eqb c c refl)
 
 module _ (start : List Goal) where
-  -- the state behind bytes
+  -- the state after bytes
   abbrev run : Option (List Goal) → List ℕ → Option (List Goal)
   run o bs = behind (recognizer start) o bs
 

@@ -24,11 +24,11 @@ use Rattle.aol_vsl.proofs.Limits.{walk, walked_ok, members, entries_reading}
 abbrev pub same_number : ℤ → ℤ
 same_number z = z
 
--- a vector read lexeme by lexeme, behind its first entries
+-- a vector read lexeme by lexeme, after its first entries
 abbrev pub vector_walk : ℕ → List ℤ → List Lexeme → Result (List ℤ) TextFault
 vector_walk = walk vector_limit (λ k z. k + 1) same_number
 
--- a shape read lexeme by lexeme, behind its first entries with their points
+-- a shape read lexeme by lexeme, after its first entries with their points
 abbrev pub shape_walk : ℕ × ℕ → List ℕ → List Lexeme → Result (List ℕ) TextFault
 shape_walk = walk (λ s. shape_limit s.0 s.1) (λ s z. (s.0 + 1, s.1 * nat_abs z)) nat_abs
 

@@ -91,7 +91,7 @@ apart_here p b (c ∷ cs) g = by_test _ (is_blank c)
 pub lexed_apart : (p b : ℕ) (bs : List ℕ) → is_blank b ≡ false → goes_on b bs ≡ false → lexed p (b ∷ bs) ≡ lexeme p (b ∷ []) ∷ lexed (p + 1) bs
 lexed_apart p b bs h g = lexed_byte p b bs h ∙ apart_here p b bs g
 
--- a byte that goes on begins the lexeme behind it
+-- a byte that goes on begins the lexeme after it
 lexed_joined : (p b c : ℕ) (cs t : List ℕ) (ls : List Lexeme) → is_blank b ≡ false → joins b c ≡ true → lexed (p + 1) cs ≡ lexeme (p + 1) (c ∷ t) ∷ ls → lexed p (b ∷ cs) ≡ lexeme p (b ∷ c ∷ t) ∷ ls
 lexed_joined p b c cs t ls h j e =
     lexed_byte p b cs h

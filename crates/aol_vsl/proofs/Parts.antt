@@ -1,4 +1,4 @@
--- Parts of the recognizer one behind another.
+-- Parts of the recognizer one after another.
 use Rattle.std.proofs.Common.{◌≡◌, ℕ, zero, suc, ◌+◌, ◌<◌, ◌≤◌, List, [], ◌∷◌, ◌++◌, length, drop, get_or, Bool, true, false, cond, ◌&&◌, Some, None, Ok, Err, Result, Option, refl, sym, ◌∙◌, ap, subst, append_assoc, eqb, not, arith, add-zero}
 use Rattle.std.proofs.lemmas.Bool.{false≢true, eqb-true, and_parts}
 use Rattle.std.proofs.lemmas.List.{drop_more, drop_all, length-drop, get_or-drop}
@@ -60,6 +60,6 @@ pub not_true : (b : Bool) → not b ≡ true → b ≡ false
 not_true true h = sym h
 not_true false h = refl
 
--- nothing is left behind the last byte of a literal
+-- nothing is left after the last byte of a literal
 pub literal_end : (literal text : List ℕ) (i at : ℕ) (in_word : Bool) → length literal ≤ i → Passes (literal_goals in_word (drop i literal)) text at (Ok at)
 literal_end literal text i at in_word h = let P : List ℕ → Type 0 = λ l. Passes (literal_goals in_word l) text at (Ok at) in subst P (sym (drop_all i literal h)) (λ gs. refl)

@@ -7,6 +7,7 @@ use Rattle.aol_shape.specs.declared.limit.LimitName.{LimitName}
 use Rattle.aol_shape.specs.Lists.{or_else}
 use Rattle.aol_shape.specs.Texts.{is_blank}
 use Rattle.aol_shape.specs.Tokens.{Token, IsSpaced, first_passing, first_passing_from, BeginsAt}
+use Rattle.aol_shape.proofs.Begins.{IsFull, begins_here, begins_later}
 use Rattle.aol_shape.specs.Grammar.{Grammar, TextFault, at, limit, IsTextOf, IsText, Reads, Lexeme, start_of, limited}
 use Rattle.aol_vsl.proofs.Spaced.{Spaced, texts, to_spaced}
 use Rattle.aol_vsl.proofs.Lexemes.{lexed, placed, lexed_spaced, Apart, together}
@@ -25,51 +26,14 @@ start_is [] p bytes s k h = absurd (omega (arith, h))
 start_is (t ∷ ts) p bytes s zero h = refl
 start_is (t ∷ ts) p bytes s (suc k) h = start_is ts (p + length s.0 + length t.text) s.1 s.4 k (omega (arith, h)) ∙ omega arith
 
-first_byte : (t rest : List ℕ) → together t ≡ true → is_blank (get_or (t ++ rest) 0 0) ≡ false
-first_byte [] rest h = cc
-first_byte (b ∷ []) rest h = not-true (is_blank b) h
-first_byte (b ∷ c ∷ cs) rest h = not-true (is_blank b) (and_parts (not (is_blank b)) _ (and_parts _ (together (c ∷ cs)) h).0).0
-
-some_byte : (t : List ℕ) → together t ≡ true → 1 ≤ length t
-some_byte [] h = cc
-some_byte (b ∷ bs) h = omega arith
-
-take_more_front : (xs ys : List ℕ) (n k : ℕ) → n ≡ length xs → take (n + k) (xs ++ ys) ≡ xs ++ take k ys
-take_more_front [] ys n k e = ap (λ m. take m ys) (omega (arith, e))
-take_more_front (x ∷ xs) ys n k e = ap (λ m. take m (x ∷ xs ++ ys)) (let m : n + k ≡ suc (length xs + k) = omega (arith, e) in m) ∙ ap (λ zs. x ∷ zs) (take_more_front xs ys (length xs) k refl)
-
-drop_more_front : (xs ys : List ℕ) (n k : ℕ) → n ≡ length xs → drop (n + k) (xs ++ ys) ≡ drop k ys
-drop_more_front [] ys n k e = ap (λ m. drop m ys) (omega (arith, e))
-drop_more_front (x ∷ xs) ys n k e = ap (λ m. drop m (x ∷ xs ++ ys)) (let m : n + k ≡ suc (length xs + k) = omega (arith, e) in m) ∙ drop_more_front xs ys (length xs) k refl
-
-get_more_front : (xs ys : List ℕ) (n k : ℕ) → n ≡ length xs → get_or (xs ++ ys) (n + k) 0 ≡ get_or ys k 0
-get_more_front [] ys n k e = ap (λ m. get_or ys m 0) (omega (arith, e))
-get_more_front (x ∷ xs) ys n k e = ap (λ m. get_or (x ∷ xs ++ ys) m 0) (let m : n + k ≡ suc (length xs + k) = omega (arith, e) in m) ∙ get_more_front xs ys (length xs) k refl
-
-begins_here : (t : Token) (ts : List Token) (bytes : List ℕ) (s : IsSpaced bytes (t ∷ ts)) → together t.text ≡ true → BeginsAt bytes (t ∷ ts) 0 (length s.0)
-begins_here t ts bytes s h =
-    let e : bytes ≡ s.0 ++ (t.text ++ s.1) = s.2 ∙ append_assoc s.0 t.text s.1 in
-    let n : length s.0 + 0 ≡ length s.0 = omega arith in
-    record {
-      within = omega (arith, ap length e, length-append s.0 (t.text ++ s.1), length-append t.text s.1, some_byte t.text h);
-      before = subst (λ bs. list_all is_blank bs ≡ true) (sym (ap (take (length s.0)) e ∙ take_at s.0 (t.text ++ s.1) (length s.0) refl)) s.3;
-      from = ([], s.1, ap (drop (length s.0)) e ∙ drop_at s.0 (t.text ++ s.1) (length s.0) refl, refl, s.4);
-      on_token = ap (λ bs. is_blank (get_or bs (length s.0) 0)) e ∙ ap (λ k. is_blank (get_or (s.0 ++ (t.text ++ s.1)) k 0)) (sym n) ∙ ap is_blank (get_more_front s.0 (t.text ++ s.1) (length s.0) 0 refl) ∙ first_byte t.text s.1 h;
-    }
-
-begins_later : (t : Token) (ts : List Token) (bytes : List ℕ) (s : IsSpaced bytes (t ∷ ts)) (k o : ℕ) → BeginsAt s.1 ts k o → BeginsAt bytes (t ∷ ts) (suc k) (length s.0 + length t.text + o)
-begins_later t ts bytes s k o b =
-    let n : length s.0 + length t.text ≡ length (s.0 ++ t.text) = omega (arith, length-append s.0 t.text) in
-    record {
-      within = omega (arith, ap length s.2, length-append (s.0 ++ t.text) s.1, n, b.within);
-      before = (s.0, take o s.1, ap (take (length s.0 + length t.text + o)) s.2 ∙ take_more_front (s.0 ++ t.text) s.1 (length s.0 + length t.text) o n, s.3, b.before);
-      from = subst (λ bs. IsSpaced bs (drop k ts)) (sym (ap (drop (length s.0 + length t.text + o)) s.2 ∙ drop_more_front (s.0 ++ t.text) s.1 (length s.0 + length t.text) o n)) b.from;
-      on_token = ap (λ bs. is_blank (get_or bs (length s.0 + length t.text + o) 0)) s.2 ∙ ap is_blank (get_more_front (s.0 ++ t.text) s.1 (length s.0 + length t.text) o n) ∙ b.on_token;
-    }
+full : (t : List ℕ) → together t ≡ true → IsFull t
+full [] h = cc
+full (b ∷ []) h = record { some = omega arith; first = not-true (is_blank b) h }
+full (b ∷ c ∷ cs) h = record { some = omega arith; first = not-true (is_blank b) (and_parts (not (is_blank b)) _ (and_parts _ (together (c ∷ cs)) h).0).0 }
 
 begins_at : (ts : List Token) (bytes : List ℕ) (s : IsSpaced bytes ts) → Apart (texts ts) → (k : ℕ) → k < length ts → BeginsAt bytes ts k (offset ts bytes s k)
 begins_at [] bytes s a k h = absurd (omega (arith, h))
-begins_at (t ∷ ts) bytes s a zero h = begins_here t ts bytes s a.0
+begins_at (t ∷ ts) bytes s a zero h = begins_here t ts bytes s (full t.text a.0)
 begins_at (t ∷ ts) bytes s a (suc k) h = begins_later t ts bytes s k (offset ts s.1 s.4 k) (begins_at ts s.1 s.4 a.2 k (omega (arith, h)))
 
 -- ---- the first limit

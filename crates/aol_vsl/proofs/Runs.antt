@@ -8,7 +8,7 @@ use Rattle.aol_vsl.specs.Reading.{joins}
 use Rattle.aol_vsl.proofs.Sound.{by_test}
 use Rattle.aol_vsl.proofs.Lexemes.{lexed, lexeme, goes_on, together, last_goes_on, lexed_text, joins_no_blank}
 
--- another digit behind at most 18 fits 64 bits
+-- another digit after at most 18 fits 64 bits
 pub few_digits : (v i : ℕ) → v < 10 ^ i → i < 19 → 10 * v + 9 < 2 ^ 64
 few_digits v i h k = let p : 10 ^ i ≤ 10 ^ 18 = pow-le-pow_right {n = 10} (lit< tt) {i = i} {j = 18} (omega (arith, k)) in omega (arith, p, h)
 

@@ -40,7 +40,7 @@ module _ (start : List Goal) where
   pub blank_only : (b : ℕ) (gs : List Goal) (bs : List ℕ) → Ends (if_blank b gs) bs → (is_blank b ≡ true) × Ends (Some gs) bs
   blank_only b gs bs h = by_test _ (is_blank b) (λ e. (e, if_true (is_blank b) (Some gs) None bs e h)) (λ e. absurd (none_ends bs (if_false (is_blank b) (Some gs) None bs e h)))
 
-  -- a text and what meets the goals behind it
+  -- a text and what meets the goals after it
   abbrev pub Met : List Goal → List ℕ → List (List ℕ) → Type 0
   Met gs bs ts = (rest : List ℕ) × Front ts bs rest × Ends (Some gs) rest
 
@@ -91,7 +91,7 @@ module _ (start : List Goal) where
       (λ f. inl (subst (λ c. Numbered gs (c ∷ bs)) (sym (eqb-true b 45 f)) (by_minus gs bs (if_true (eqb b 45) (Some (digit ∷ gs)) other bs f h'))))
       (λ f. inr (if_false (eqb b 45) (Some (digit ∷ gs)) other bs f h')))
 
-  -- a numeral behind blanks
+  -- a numeral after blanks
   abbrev Spelled : List Goal → List ℕ → Type 0
   Spelled gs bs = (n : Numeral) × (is_numeral n ≡ true) × Met gs bs (n ∷ [])
 

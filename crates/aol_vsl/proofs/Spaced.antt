@@ -6,7 +6,7 @@ use Rattle.aol_shape.specs.Texts.{is_blank}
 use Rattle.aol_shape.specs.Tokens.{Token, IsSpaced, separated, sign}
 use Rattle.aol_vsl.specs.Text.{Numeral, WrittenTiler}
 
--- the bytes begin with these texts in this order, with any blanks before each, and `rest` comes behind
+-- the bytes begin with these texts in this order, with any blanks before each, and `rest` comes after
 abbrev pub Front : List (List ℕ) → List ℕ → List ℕ → Type 0
 Front [] bytes rest = bytes ≡ rest
 Front (t ∷ ts) bytes rest = (gap : List ℕ) × (mid : List ℕ) × (bytes ≡ gap ++ t ++ mid) × (list_all is_blank gap ≡ true) × Front ts mid rest
@@ -51,7 +51,7 @@ front_here t bytes rest e = ([], rest, e, refl, refl)
 
 -- ---- the texts of vectors and matrices
 
--- entries that each stand behind a comma, and the closing brace
+-- entries that each stand after a comma, and the closing brace
 abbrev pub more_texts : List Numeral → List (List ℕ)
 more_texts [] = (125 ∷ []) ∷ []
 more_texts (n ∷ ns) = (44 ∷ []) ∷ n ∷ more_texts ns
@@ -65,7 +65,7 @@ first_texts (n ∷ ns) = n ∷ more_texts ns
 abbrev pub vector_texts : List Numeral → List (List ℕ)
 vector_texts ns = (123 ∷ []) ∷ first_texts ns
 
--- columns that each stand behind a comma, and the closing brace
+-- columns that each stand after a comma, and the closing brace
 abbrev pub more_columns : List (List Numeral) → List (List ℕ)
 more_columns [] = (125 ∷ []) ∷ []
 more_columns (c ∷ cs) = (44 ∷ []) ∷ (vector_texts c ++ more_columns cs)

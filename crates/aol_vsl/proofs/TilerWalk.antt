@@ -69,11 +69,11 @@ module _ (s : ℕ → ℕ) where
   Outcome (Err (at byte)) first P = ⊥
   Outcome (Err (limit byte name)) first P = (i : ℕ) × (first ≡ Some (i, name)) × (s i ≡ byte)
 
-  -- a part is read as this value, no limit is passed in it, and these tokens come behind it
+  -- a part is read as this value, no limit is passed in it, and these tokens come after it
   abbrev Part : {V : Type 0} → List Token → V → V × List Lexeme → Option (ℕ × LimitName) → Type 0
   Part us v r first = (r.0 ≡ v) × (k : ℕ) × (r.1 ≡ stood s k us) × (first ≡ first_passing_from k us)
 
-  -- what comes behind a part
+  -- what comes after a part
   then_part : {V B : Type 0} (us : List Token) (v : V) (Q : B → Option (ℕ × LimitName) → Type 0) (r : Result (V × List Lexeme) TextFault) (next : V × List Lexeme → Result B TextFault) (first : Option (ℕ × LimitName))
       → Outcome r first (Part us v) → ((k : ℕ) → Outcome (next (v, stood s k us)) (first_passing_from k us) Q) → Outcome (then_read r next) first Q
   then_part {V} {B} us v Q (Ok r) next first p h =
@@ -134,7 +134,7 @@ module _ (s : ℕ → ℕ) where
       subst (λ r. Outcome r (or_else (option_map (λ name. (k, name)) o) first) P) (sym (entry_walk j opened m (s k) vs n ls parts.0 e))
       (walked_outcome P o k (column_walk j opened (vs ++ z ∷ []) ls) first (subst (λ ws. Outcome (column_walk j opened (vs ++ z ∷ []) ls) first (Part us ws)) (append_assoc vs (z ∷ []) (map numeral_value (n' ∷ ns))) later))
 
-  -- the lexemes behind the brace of column j
+  -- the lexemes after the brace of column j
   abbrev inside : ℕ → ℕ → List Numeral → List Token → List Lexeme
   inside j k c us = stood s (k + 1) (entries j 0 c us)
 
@@ -161,7 +161,7 @@ module _ (s : ℕ → ℕ) where
   abbrev columns : ℕ → List (List Numeral) → List Token → List Token
   columns j cs us = separated (columns_from j cs) ++ sign 125 ∷ us
 
-  -- a column in front of what comes behind it
+  -- a column in front of what comes after it
   one_column : (done : List (List ℤ)) (c : List Numeral) (k : ℕ) (ts us : List Token) (vs : List (List ℤ)) → list_all is_numeral c ≡ true
       → ((k' : ℕ) → Outcome (matrix_walk None (done ++ map numeral_value c ∷ []) (stood s k' ts)) (first_passing_from k' ts) (Part us vs))
       → Outcome (matrix_walk None done (stood s k (column_tokens (length done) c ++ ts))) (first_passing_from k (column_tokens (length done) c ++ ts)) (Part us vs)
@@ -191,13 +191,13 @@ module _ (s : ℕ → ℕ) where
       (subst (λ us'. Outcome (matrix_walk None done (stood s k us')) (first_passing_from k us') (Part us vs)) (sym (append_assoc (column_tokens (length done) c) (sign 44 ∷ separated (columns_from (length done + 1) (d ∷ cs))) (sign 125 ∷ us)))
       (one_column done c k ts us vs parts.0 later))
 
-  -- the columns behind the opening brace of a matrix
+  -- the columns after the opening brace of a matrix
   matrix_part : (cs : List (List Numeral)) (k : ℕ) (us : List Token) → list_all (list_all is_numeral) cs ≡ true
       → Outcome (matrix_walk None [] (stood s k (columns 0 cs us))) (first_passing_from k (columns 0 cs us)) (Part us (map (map numeral_value) cs))
   matrix_part [] k us h = (refl, k + 1, refl, refl)
   matrix_part (c ∷ cs) k us h = columns_part [] 0 c cs k us h refl
 
-  -- a matrix behind a comma, a name and `=`, in front of other tokens
+  -- a matrix after a comma, a name and `=`, in front of other tokens
   abbrev named : List ℕ → List (List Numeral) → List Token → List Token
   named name cs us = sign 44 ∷ plain name ∷ sign 61 ∷ (matrix_tokens cs ++ us)
 

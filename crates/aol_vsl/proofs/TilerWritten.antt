@@ -152,7 +152,7 @@ module _ (w : WrittenTiler) (h : is_written_tiler w ≡ true) where
   abbrev equals : List ℕ
   equals = 61 ∷ []
 
-  -- behind the word `fitting`
+  -- after the word `fitting`
   abbrev last_part : List (List ℕ)
   last_part = equals ∷ (matrix_texts w.fitting ++ (41 ∷ []) ∷ [])
 

@@ -26,7 +26,7 @@ use Rattle.aol_vsl.proofs.Again.{signed_all, signed_values, vector_passes}
 
 -- ---- the canonical text spells its texts
 
--- texts one behind another
+-- texts one after another
 abbrev glued : List (List ℕ) → List ℕ
 glued [] = []
 glued (t ∷ ts) = t ++ glued ts

@@ -40,7 +40,7 @@ refused_then (At byte) r next whole g h = h ∙ ap (λ s. then_read s next) g
 refused_then (Limit byte passed) r next whole g h = h ∙ ap (λ s. then_read s next) g
 refused_then NoMemory r next whole g h = tt
 
--- what comes behind a column
+-- what comes after a column
 abbrev pub after_column : List (List ℤ) → List ℤ × List Lexeme → Result (List (List ℤ) × List Lexeme) TextFault
 after_column cs r = matrix_walk None (cs ++ r.0 ∷ []) r.1
 
@@ -58,11 +58,11 @@ matrix_column cs l ls rest j is e h n =
 
 -- ---- a tiler
 
--- what comes behind an origin and a paving
+-- what comes after an origin and a paving
 abbrev pub behind_paving : List ℤ → List (List ℤ) × List Lexeme → Result TilerOf TextFault
 behind_paving o p = then_read (matrix_walk None [] (behind_brace p.1)) (λ f. Ok (record { origin = o; paving = p.0; fitting = f.0 }))
 
--- what comes behind an origin
+-- what comes after an origin
 abbrev pub behind_origin : List ℤ × List Lexeme → Result TilerOf TextFault
 behind_origin o = then_read (matrix_walk None [] (behind_brace o.1)) (behind_paving o.0)
 

@@ -6,7 +6,7 @@ use Rattle.std.specs.List.{join_with_byte}
 use Rattle.aol_vsl.specs.Text.{braced_text}
 use Rattle.aol_vsl.specs.Writing.{separator}
 
--- members behind an opening brace
+-- members after an opening brace
 abbrev pub opened : List (List ℕ) → List ℕ
 opened ms = 123 ∷ join_with_byte 44 ms
 

@@ -17,7 +17,7 @@ lexeme_of text found = record { start = found.start; text = take (found.end - fo
 abbrev pub lexemes_at : List ℕ → ℕ → List Lexeme
 lexemes_at text place = lexemes_from joins place (drop place text)
 
--- the next lexeme of a text from a place on, and those behind it
+-- the next lexeme of a text from a place on, and those after it
 abbrev pub Finds : List ℕ → ℕ → Option Found → Type 0
 Finds text place (Some found) = lexemes_at text place ≡ lexeme_of text found ∷ lexemes_at text found.end
 Finds text place None = lexemes_at text place ≡ []

@@ -5,8 +5,8 @@ use Rattle.aol_shape.specs.Machine.{Machine, stuck_from}
 use Rattle.aol_vsl.specs.Reading.{Goal, sign, tight, number, digit, digits, first_entry, next_entry, first_column, next_column, step, recognizer}
 use Rattle.aol_vsl.specs.declared.recognizer.Entries.{Entries}
 use Rattle.aol_vsl.specs.declared.recognizer.Entries.TheVariants.{First, Next, Number, Digit, Digits}
-use Rattle.aol_vsl.specs.declared.recognizer.Step.{Step}
-use Rattle.aol_vsl.specs.declared.recognizer.Step.TheVariants.{On, Done, Stuck}
+use Rattle.aol_vsl.specs.declared.recognizer.Progress.{Progress}
+use Rattle.aol_vsl.specs.declared.recognizer.Progress.TheVariants.{On, Done, Stuck}
 use Rattle.aol_vsl.specs.declared.matrix.Columns.{Columns}
 use Rattle.aol_vsl.specs.declared.matrix.Columns.TheVariants.{FirstColumn, NextColumn, Open, Inside}
 use Rattle.aol_vsl.specs.declared.matrix.ColumnsStep.{ColumnsStep}
@@ -29,8 +29,8 @@ entries_goals Number = number ∷ next_entry ∷ []
 entries_goals Digit = digit ∷ next_entry ∷ []
 entries_goals (Digits left) = digits left ∷ next_entry ∷ []
 
--- the goals behind a byte, above those that come below
-abbrev pub stepped : Step → List Goal → Option (List Goal)
+-- the goals after a byte, above those that come below
+abbrev pub stepped : Progress → List Goal → Option (List Goal)
 stepped (On entries) gs = Some (entries_goals entries ++ gs)
 stepped Done gs = Some gs
 stepped Stuck gs = None
@@ -39,11 +39,11 @@ stepped Stuck gs = None
 abbrev pub Allows : List Goal → Type 0
 Allows gs = (b : ℕ) → is_blank b ≡ true → step gs b ≡ Some gs
 
--- the goal of a byte of a literal: a letter behind a letter comes at once
+-- the goal of a byte of a literal: a letter after a letter comes at once
 abbrev pub part_of : Bool → ℕ → Goal
 part_of in_word c = if in_word && is_letter c then tight c else sign c
 
--- the goals of a literal of signs and words, behind a letter or not
+-- the goals of a literal of signs and words, after a letter or not
 abbrev pub literal_goals : Bool → List ℕ → List Goal
 literal_goals in_word [] = []
 literal_goals in_word (c ∷ cs) = part_of in_word c ∷ literal_goals (is_letter c) cs
@@ -55,7 +55,7 @@ columns_above NextColumn gs = next_column ∷ gs
 columns_above Open gs = sign 123 ∷ first_entry ∷ next_column ∷ gs
 columns_above (Inside entries) gs = entries_goals entries ++ next_column ∷ gs
 
--- the goals behind a byte of columns
+-- the goals after a byte of columns
 abbrev pub columns_stepped : ColumnsStep → List Goal → Option (List Goal)
 columns_stepped (Further columns) gs = Some (columns_above columns gs)
 columns_stepped Closed gs = Some gs

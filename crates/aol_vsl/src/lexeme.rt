@@ -5,7 +5,7 @@ ghost use Rattle.aol_shape.specs.Texts.{is_blank};
 ghost use Rattle.aol_vsl.specs.Reading.{joins};
 ghost use Rattle.aol_vsl.specs.Number.{Finds, lexemes_at};
 
-use crate::recognizer::{is_blank, is_digit, is_letter};
+use aol_shape::{is_blank, is_digit, is_letter};
 
 /// Where a lexeme begins and where it ends.
 #[derive(Clone, Copy)]

@@ -1,4 +1,11 @@
 //! Texts of shapes, vectors and tilers.
+//!
+//! Read `specs/Text.antt` first, the grammars; then `read_tiler`, whose refusal says where a text stops being one.
+//!
+//! ```text
+//! read_shape(alloc, "{2048,2049}")               // Err(Limit(6, Points)): the entry that passes it begins at byte 6
+//! read_tiler(alloc, "(origin={0},paving={{1}})") // Err(At(24)): some tiler's text begins with these 24 bytes
+//! ```
 #![tactic(auto)]
 
 mod laws;
@@ -20,6 +27,3 @@ pub use refused::VslRefused;
 pub use tiler::read_tiler;
 pub use vector::{read_shape, read_vector};
 pub use writing::{write_shape, write_tiler, write_vector};
-
-#[cfg(test)]
-mod tests;

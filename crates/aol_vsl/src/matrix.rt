@@ -15,8 +15,9 @@ ghost use Rattle.aol_vsl.specs.Reading.{
 ghost use Rattle.aol_vsl.specs.Passing.{Passes, columns_above, columns_stepped, literal_goals};
 
 use crate::recognizer::{
-    Entries, Step, behind, is_blank, past_literal, past_sign, past_vector, stuck_behind,
+    Entries, Progress, behind, past_literal, past_sign, past_vector, stuck_behind,
 };
+use aol_shape::is_blank;
 
 /// What the columns of a matrix still want.
 #[derive(Clone, Copy)]
@@ -35,7 +36,7 @@ enum ColumnsStep {
     Unfit,
 }
 
-/// The columns behind a byte that is no sign of theirs.
+/// The columns after a byte that is no sign of theirs.
 fn behind_blank(columns: Columns, byte: u8) -> ColumnsStep
     ensures { (gs : List Goal) → columns_stepped result gs ≡ if_blank byte (columns_above columns gs) }
 {
@@ -46,7 +47,7 @@ fn behind_blank(columns: Columns, byte: u8) -> ColumnsStep
     }
 }
 
-/// The columns behind a byte.
+/// The columns after a byte.
 fn behind_columns(columns: Columns, byte: u8) -> ColumnsStep
     ensures { (gs : List Goal) → step (columns_above columns gs) byte ≡ columns_stepped result gs }
 {
@@ -57,9 +58,9 @@ fn behind_columns(columns: Columns, byte: u8) -> ColumnsStep
         ),
         Columns::NextColumn if byte == b',' => ColumnsStep::Further(Columns::Open),
         Columns::Inside(entries) => match behind(entries, byte) {
-            Step::On(next) => ColumnsStep::Further(Columns::Inside(next)),
-            Step::Done => ColumnsStep::Further(Columns::NextColumn),
-            Step::Stuck => ColumnsStep::Unfit,
+            Progress::On(next) => ColumnsStep::Further(Columns::Inside(next)),
+            Progress::Done => ColumnsStep::Further(Columns::NextColumn),
+            Progress::Stuck => ColumnsStep::Unfit,
         },
         _ => behind_blank(columns, byte),
     }

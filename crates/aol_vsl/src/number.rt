@@ -5,11 +5,7 @@ ghost use Rattle.aol_shape.specs.Texts.{is_numeral, numeral_value, are_digits, d
 ghost use Rattle.aol_vsl.specs.Text.{vector_limit, column_limit, shape_limit};
 ghost use Rattle.aol_vsl.specs.Number.{number_value};
 
-use crate::recognizer::is_digit;
-use aol_shape::LimitName;
-
-/// The most entries of a vector or a shape.
-pub(crate) const MAX_RANK: usize = 12;
+use aol_shape::{LimitName, MAX_DIGITS, MAX_POINTS, MAX_RANK, MAX_VECTOR_ENTRY, is_digit};
 
 /// The sign and the magnitude of a numeral.
 #[derive(Clone, Copy)]
@@ -22,7 +18,7 @@ pub(crate) struct Number {
 fn magnitude_of(digits: &[u8]) -> Option<u64>
     ensures { MatchOption result (are_digits digits.now ≡ false) (λ n. (are_digits digits.now ≡ true) × (n ≡ digits_value digits.now)) }
 {
-    if digits.is_empty() || digits.len() > 19 {
+    if digits.is_empty() || digits.len() > MAX_DIGITS as usize {
         return None;
     }
     let mut value = 0u64;
@@ -51,13 +47,13 @@ pub(crate) fn number_of(text: &[u8]) -> Option<Number>
     }
 }
 
-/// The number as a vector's entry behind so many others, or the first limit that it passes there.
+/// The number as a vector's entry after so many others, or the first limit that it passes there.
 pub(crate) fn vector_entry(number: Number, count: usize) -> Result<i32, LimitName>
     ensures { MatchResult result (λ e. (vector_limit count (number_value number) ≡ None) × (e ≡ number_value number)) (λ name. vector_limit count (number_value number) ≡ Some name) }
 {
     if count >= MAX_RANK {
         Err(LimitName::Rank)
-    } else if number.magnitude > 2147483647 {
+    } else if number.magnitude > u64::from(MAX_VECTOR_ENTRY) {
         Err(LimitName::Entry)
     } else if number.negative {
         Ok(-(number.magnitude as i32))
@@ -66,7 +62,7 @@ pub(crate) fn vector_entry(number: Number, count: usize) -> Result<i32, LimitNam
     }
 }
 
-/// The number as an entry of a matrix's column behind so many others, or the first limit that it passes there.
+/// The number as an entry of a matrix's column after so many others, or the first limit that it passes there.
 pub(crate) fn column_entry(number: Number, count: usize, column: usize) -> Result<i32, LimitName>
     ensures { MatchResult result (λ e. (column_limit column count (number_value number) ≡ None) × (e ≡ number_value number)) (λ name. column_limit column count (number_value number) ≡ Some name) }
 {
@@ -77,16 +73,16 @@ pub(crate) fn column_entry(number: Number, count: usize, column: usize) -> Resul
     }
 }
 
-/// The number as a shape's entry behind so many others with so many points, or the first limit that it passes there.
+/// The number as a shape's entry after so many others with so many points, or the first limit that it passes there.
 pub(crate) fn shape_entry(number: Number, count: usize, points: u64) -> Result<u32, LimitName>
-    requires { points ≤ 4194304 }
+    requires { points ≤ MAX_POINTS }
     ensures { MatchResult result (λ e. (shape_limit count points (number_value number) ≡ None) × (e ≡ nat_abs (number_value number))) (λ name. shape_limit count points (number_value number) ≡ Some name) }
 {
     if count >= MAX_RANK {
         Err(LimitName::Rank)
-    } else if number.negative || number.magnitude < 1 || number.magnitude > 4194304 {
+    } else if number.negative || number.magnitude < 1 || number.magnitude > u64::from(MAX_POINTS) {
         Err(LimitName::Entry)
-    } else if points * number.magnitude > 4194304 {
+    } else if points * number.magnitude > u64::from(MAX_POINTS) {
         Err(LimitName::Points)
     } else {
         Ok(number.magnitude as u32)

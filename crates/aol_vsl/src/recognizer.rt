@@ -7,6 +7,8 @@ ghost use Rattle.aol_shape.specs.Machine.{stuck_from, stuck_at};
 ghost use Rattle.aol_vsl.specs.Reading.{Goal, step, begun, if_blank, recognizer, vector_goals, sign, tight, first_entry, next_entry};
 ghost use Rattle.aol_vsl.specs.Passing.{parts, Passes, entries_goals, stepped, Allows, part_of, literal_goals};
 
+use aol_shape::{is_blank, is_digit, is_letter};
+
 /// What the entries of a vector still want.
 #[derive(Clone, Copy)]
 pub(crate) enum Entries {
@@ -19,73 +21,54 @@ pub(crate) enum Entries {
 
 /// What a byte makes of entries: they go on, their closing brace is there, or the byte doesn't fit.
 #[derive(Clone, Copy)]
-pub(crate) enum Step {
+pub(crate) enum Progress {
     On(Entries),
     Done,
     Stuck,
 }
 
-/// Whether the byte is a blank.
-pub(crate) fn is_blank(byte: u8) -> bool
-    ensures { result ≡ is_blank byte }
-{
-    byte == b' ' || byte == b'\t' || byte == b'\n' || byte == b'\r'
-}
-
-/// Whether the byte is a digit.
-pub(crate) fn is_digit(byte: u8) -> bool
-    ensures { result ≡ is_digit byte }
-{
-    byte >= b'0' && byte <= b'9'
-}
-
-/// Whether the byte is a letter or `_`.
-pub(crate) fn is_letter(byte: u8) -> bool
-    ensures { result ≡ is_letter byte }
-{
-    (byte >= b'A' && byte <= b'Z') || (byte >= b'a' && byte <= b'z') || byte == b'_'
-}
-
-/// The entries behind a byte that may begin a number.
-fn begun(entries: Entries, byte: u8) -> Step
+/// The entries after a byte that may begin a number.
+fn begun(entries: Entries, byte: u8) -> Progress
     ensures { (gs : List Goal) → stepped result gs ≡ begun byte (next_entry ∷ gs) (if_blank byte (entries_goals entries ++ gs)) }
 {
     if is_digit(byte) {
-        Step::On(Entries::Digits(18))
+        Progress::On(Entries::Digits(18))
     } else if byte == b'-' {
-        Step::On(Entries::Digit)
+        Progress::On(Entries::Digit)
     } else if is_blank(byte) {
-        Step::On(entries)
+        Progress::On(entries)
     } else {
-        Step::Stuck
+        Progress::Stuck
     }
 }
 
-/// The entries behind a byte that comes behind an entry.
-fn behind_entry(byte: u8) -> Step
+/// The entries after a byte that comes after an entry.
+fn behind_entry(byte: u8) -> Progress
     ensures { (gs : List Goal) → step (next_entry ∷ gs) byte ≡ stepped result gs }
 {
     if byte == b'}' {
-        Step::Done
+        Progress::Done
     } else if byte == b',' {
-        Step::On(Entries::Number)
+        Progress::On(Entries::Number)
     } else if is_blank(byte) {
-        Step::On(Entries::Next)
+        Progress::On(Entries::Next)
     } else {
-        Step::Stuck
+        Progress::Stuck
     }
 }
 
-/// The entries behind a byte.
-pub(crate) fn behind(entries: Entries, byte: u8) -> Step
+/// The entries after a byte.
+pub(crate) fn behind(entries: Entries, byte: u8) -> Progress
     ensures { (gs : List Goal) → step (entries_goals entries ++ gs) byte ≡ stepped result gs }
 {
     match entries {
-        Entries::First if byte == b'}' => Step::Done,
+        Entries::First if byte == b'}' => Progress::Done,
         Entries::First | Entries::Number => begun(entries, byte),
-        Entries::Digit if is_digit(byte) => Step::On(Entries::Digits(18)),
-        Entries::Digit => Step::Stuck,
-        Entries::Digits(left) if left > 0 && is_digit(byte) => Step::On(Entries::Digits(left - 1)),
+        Entries::Digit if is_digit(byte) => Progress::On(Entries::Digits(18)),
+        Entries::Digit => Progress::Stuck,
+        Entries::Digits(left) if left > 0 && is_digit(byte) => Progress::On(Entries::Digits(
+            left - 1,
+        )),
         Entries::Digits(_) | Entries::Next => behind_entry(byte),
     }
 }
@@ -99,9 +82,9 @@ fn past_entries(text: &[u8], start: usize) -> Result<usize, usize>
     let mut entries = Entries::First;
     for at in start..text.len() {
         match behind(entries, text[at]) {
-            Step::On(next) => entries = next,
-            Step::Done => return Ok(at + 1),
-            Step::Stuck => return Err(at),
+            Progress::On(next) => entries = next,
+            Progress::Done => return Ok(at + 1),
+            Progress::Stuck => return Err(at),
         }
     }
     Err(text.len())
@@ -135,7 +118,7 @@ fn past_byte(text: &[u8], at: usize, byte: u8) -> Result<usize, usize>
     }
 }
 
-/// Past a byte that stands here or behind blanks, or the byte at which it is stuck.
+/// Past a byte that stands here or after blanks, or the byte at which it is stuck.
 pub(crate) fn past_sign(text: &[u8], start: usize, byte: u8) -> Result<usize, usize>
     requires within { start ≤ length text.now }
     requires no_blank { is_blank byte ≡ false }
@@ -161,7 +144,7 @@ pub(crate) fn past_literal(text: &[u8], start: usize, literal: &[u8]) -> Result<
     Ok(at)
 }
 
-/// Past a byte that stands here or behind blanks, and at once as a letter inside a word, or the byte at which it is stuck.
+/// Past a byte that stands here or after blanks, and at once as a letter inside a word, or the byte at which it is stuck.
 fn past_part(text: &[u8], start: usize, byte: u8, in_word: bool) -> Result<usize, usize>
     requires within { start ≤ length text.now }
     requires no_blank { is_blank byte ≡ false }

@@ -11,9 +11,9 @@ ghost use Rattle.aol_vsl.specs.Walk.{begins as begins_with, behind_brace, close_
 
 use crate::lexeme::{Found, next_lexeme};
 use crate::matrix::tiler_stuck;
-use crate::number::{MAX_RANK, column_entry, number_of};
+use crate::number::{column_entry, number_of};
 use crate::refused::VslRefused;
-use aol_shape::{IntVec, LimitName};
+use aol_shape::{IntVec, LimitName, MAX_RANK};
 use aol_tiler::{IntMat, Tiler};
 use std::alloc::Global;
 
@@ -26,7 +26,7 @@ fn begins(text: &[u8], found: Found, byte: u8) -> bool
     text[found.start] == byte
 }
 
-/// The place behind the next opening brace.
+/// The place after the next opening brace.
 fn past_brace(text: &[u8], start: usize) -> usize
     requires { start ≤ length text.now }
     ensures lexemes { lexemes_at text.now result ≡ behind_brace (lexemes_at text.now start) }
@@ -42,7 +42,7 @@ fn past_brace(text: &[u8], start: usize) -> usize
     place
 }
 
-/// The vector of a column's entries and the place behind it, or the limit that an empty thirteenth one passes at its opening brace.
+/// The vector of a column's entries and the place after it, or the limit that an empty thirteenth one passes at its opening brace.
 fn closed(
     alloc: Global,
     entries: &[i32],
@@ -64,7 +64,7 @@ fn closed(
     }
 }
 
-/// The column of this number whose entries stand here, its brace being opened before, and the place behind it.
+/// The column of this number whose entries stand here, its brace being opened before, and the place after it.
 fn column_from(
     alloc: Global,
     text: &[u8],
@@ -100,7 +100,7 @@ fn column_from(
     closed(alloc, &entries[..count], opened, column, place)
 }
 
-/// The columns of the matrix whose opening brace stands before, and the place behind it.
+/// The columns of the matrix whose opening brace stands before, and the place after it.
 fn matrix_from(alloc: Global, text: &[u8], start: usize) -> Result<(IntMat, usize), VslRefused>
     requires short { length text.now < 2 ^ 32 }
     requires start { start ≤ length text.now }

@@ -1,10 +1,12 @@
-use Rattle.std.proofs.Common.{◌≡◌, Some, None, ◌∙◌, sym, ap, subst, rules}
-use Rattle.aol_cli.specs.Answer.{BuiltAnswers, limited, print, wrong_input, run, limit_of}
+use Rattle.std.proofs.Common.{◌≡◌, [], None, ◌∙◌, sym, ap, subst, rules}
+use Rattle.aol_flat.specs.Limits.{first_limit}
+use Rattle.aol_cli.specs.Answer.{BuiltAnswers, limited, print, wrong_input, run}
 use Rattle.aol_cli.specs.Inputs.{first_wrong_input}
 use Rattle.aol_cli.specs.Lent.{lent_pair}
 use Rattle.aol_cli.specs.Run.{IsRunReply}
 use Rattle.aol_cli.proofs.answer.built_reply.Goals as goal
 use Rattle.aol_cli.proofs.Checked.{inputs-fit, main_typed, wrong_is}
+use Rattle.aol_cli.proofs.OneNode.{limit-told, no_limit-told}
 use Rattle.aol_cli.proofs.Replies.{made_of, carried}
 
 pub limit_of-requires-clause-ins : goal.limit_of-requires-clause-ins
@@ -15,13 +17,13 @@ limit_of-requires-clause-outs c = (main_typed c.args.document.now.model c.args.t
 
 pub returns-in-Some : goal.returns-in-Some
 returns-in-Some c =
-    made_of (BuiltAnswers c.args.command c.args.document.now c.args.task.now) c.tree_limit_reply.result 9 _ c.tree_limit_reply.ensures.code c.tree_limit_reply.ensures.text
-    (limited c.in-Some.name (sym c.limit_of.ensures ∙ c.in-Some.is))
+    made_of (BuiltAnswers c.args.command c.args.document.now) c.refusal.result _ c.refusal.ensures
+    (limited [] c.in-Some.name (limit-told c.args.document.now.model c.args.task.now c.requires.built.main c.limit_of.result c.in-Some.name c.limit_of.ensures c.in-Some.is))
 
 pub returns-in-Print : goal.returns-in-Print
 returns-in-Print c =
-    let within : limit_of c.args.task.now ≡ None = search rules in
-    made_of (BuiltAnswers c.args.command c.args.document.now c.args.task.now) c.print_reply.result 0 _ c.print_reply.ensures.code c.print_reply.ensures.text (print within c.in-Print.is)
+    let within : first_limit c.args.document.now.model ≡ None = no_limit-told c.args.document.now.model c.args.task.now c.requires.built.main c.limit_of.result c.limit_of.ensures (search rules) in
+    made_of (BuiltAnswers c.args.command c.args.document.now) c.print_reply.result _ c.print_reply.ensures (print within c.in-Print.is)
 
 pub run_reply-requires-clause-fit : goal.run_reply-requires-clause-fit
 run_reply-requires-clause-fit c =
@@ -33,8 +35,8 @@ run_reply-requires-clause-outs c = (main_typed c.args.document.now.model c.args.
 
 pub returns-in-Some-wrong_input : goal.returns-in-Some-wrong_input
 returns-in-Some-wrong_input c =
-    let within : limit_of c.args.task.now ≡ None = search rules in
-    made_of (BuiltAnswers c.args.command c.args.document.now c.args.task.now) c.input_reply.result 13 _ c.input_reply.ensures.code c.input_reply.ensures.text
+    let within : first_limit c.args.document.now.model ≡ None = no_limit-told c.args.document.now.model c.args.task.now c.requires.built.main c.limit_of.result c.limit_of.ensures (search rules) in
+    made_of (BuiltAnswers c.args.command c.args.document.now) c.refusal-in-Some-wrong_input.result _ c.refusal-in-Some-wrong_input.ensures
     (wrong_input _ within c.in-Run.is c.in-Some-wrong_input.name.now c.in-Some-wrong_input.cause.now
     (ap (first_wrong_input c.args.document.now.model) (sym c.as_slice-inputs.ensures)
     ∙ (wrong_is c.args.document.now.model c.args.task.now c.as_slice-inputs.result.now c.as_slice.result.now c.requires.built.main c.as_slice.ensures
@@ -42,9 +44,9 @@ returns-in-Some-wrong_input c =
 
 pub returns-in-None : goal.returns-in-None
 returns-in-None c =
-    let within : limit_of c.args.task.now ≡ None = search rules in
+    let within : first_limit c.args.document.now.model ≡ None = no_limit-told c.args.document.now.model c.args.task.now c.requires.built.main c.limit_of.result c.limit_of.ensures (search rules) in
     let right : first_wrong_input c.args.document.now.model c.args.document.now.job.input ≡ None =
     ap (first_wrong_input c.args.document.now.model) (sym c.as_slice-inputs.ensures)
     ∙ (wrong_is c.args.document.now.model c.args.task.now c.as_slice-inputs.result.now c.as_slice.result.now c.requires.built.main c.as_slice.ensures ∙ (c.wrong_input.ensures ∙ ap lent_pair c.in-None.is)) in
-    carried (IsRunReply c.args.document.now.model c.as_slice-inputs.result.now) (BuiltAnswers c.args.command c.args.document.now c.args.task.now) c.run_reply.result
+    carried (IsRunReply c.args.document.now.model c.as_slice-inputs.result.now) (BuiltAnswers c.args.command c.args.document.now) c.run_reply.result
     (λ x p. run _ within c.in-Run.is right x (subst (λ i. IsRunReply c.args.document.now.model i x) c.as_slice-inputs.ensures p)) c.run_reply.ensures

@@ -1,5 +1,5 @@
 use Rattle.std.proofs.Common.{◌≡◌, drop}
-use Rattle.aol_model.specs.Rules.{task_named}
+use Rattle.aol_model_types.specs.Rules.{task_named}
 use Rattle.aol_cli.proofs.answer.main_elementary.Given as goal
 
 -- no task so far has the name

@@ -1,6 +1,6 @@
 use Rattle.std.proofs.Common.{◌≡◌, ◌*◌, ◌≤◌, ◌^◌, take, sum_by}
 use Rattle.aol_shape.specs.Shape.{size}
-use Rattle.aol_expr.specs.Tree.{work}
+use Rattle.aol_expr_tree.specs.Tree.{work}
 use Rattle.aol_cli.proofs.limits.work_out.Given as goal
 
 -- the work of the ports so far

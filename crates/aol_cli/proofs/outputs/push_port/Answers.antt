@@ -1,10 +1,9 @@
-use Rattle.std.proofs.Common.{◌≡◌, ◌+◌, ◌<◌, ◌++◌, [], ◌∷◌, length, take, replicate, map, flat_map, string_bytes, None, codes, sym, ◌∙◌, ap, subst, refl, arith, rules}
+use Rattle.std.proofs.Common.{◌≡◌, ◌+◌, ◌<◌, ◌++◌, length, take, replicate, string_bytes, codes, sym, ◌∙◌, ap, subst, refl, arith, rules}
 use Rattle.std.specs.Fmt.{signed_decimal}
-use Rattle.aol_expr.specs.declared.value.Val.TheVariants.{Num}
-use Rattle.aol_shape.specs.Shape.{IsPointOf, size, rank, point_at, points}
+use Rattle.aol_expr_tree.specs.declared.value.Val.TheVariants.{Num}
+use Rattle.aol_shape.specs.Shape.{IsPointOf, size, rank, point_at}
 use Rattle.aol_shape.proofs.Points.{point_at-is, rank-point_at}
-use Rattle.aol_flat.specs.InstanceValue.{computed, first_fault}
-use Rattle.aol_flat.specs.Printed.{value_text}
+use Rattle.aol_flat.specs.InstanceValue.{computed}
 use Rattle.aol_cli.proofs.Computed.{Printed, first_point, printed-none, printed-more, fault-here, printed-all, on_true}
 use Rattle.aol_cli.proofs.outputs.push_port.Goals as goal
 

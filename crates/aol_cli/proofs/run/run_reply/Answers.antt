@@ -1,6 +1,6 @@
-use Rattle.std.proofs.Common.{◌≡◌, ◌∙◌, ap, rules}
-use Rattle.aol_flat.specs.Tasks.{elementary_number}
-use Rattle.aol_flat.specs.Inputs.{numbers_for}
+use Rattle.std.proofs.Common.{rules}
+use Rattle.aol_cli.specs.Run.{IsRunReply}
+use Rattle.aol_cli.proofs.Replies.{made_of}
 use Rattle.aol_cli.proofs.RunReplies.{lines-matched, fault-matched}
 use Rattle.aol_cli.proofs.run.run_reply.Goals as goal
 
@@ -11,5 +11,6 @@ returns-in-Ok c =
 
 pub returns : goal.returns
 returns c =
-    fault-matched c.args.model.now c.args.task.now c.args.inputs.now c.requires.main c.requires.agree c.requires.fit c.number_of-number.result c.as_slice-3.result.now _ c.in-Err.site _
-    (search rules) (search rules) c.in-Err.is c.in_ok-text.ensures c.in_ok-fault_line-in-Err.ensures
+    made_of (IsRunReply c.args.model.now c.args.inputs.now) c.fault_reply.result _ c.fault_reply.ensures
+    (fault-matched c.args.model.now c.args.task.now c.args.inputs.now c.requires.main c.requires.agree c.requires.fit c.number_of-number.result c.as_slice-3.result.now _ c.in-Err.site
+    (search rules) (search rules) c.in-Err.is c.in_ok-text.ensures)

@@ -5,7 +5,7 @@ use Rattle.aol_expr.proofs.writing.+writing.Goals as goal
 pub append_indices-loop-node-preserved : goal.append_indices-loop-node-preserved
 append_indices-loop-node-preserved t c =
     let e = c.node-item.result in
-    c.in_ok-append_behind.ensures
+    c.in_ok-append_after.ensures
     ∙ ap (λ bs. (bs ++ 44 ∷ []) ++ node_text e) c.loop-node.invariant
     ∙ sym (one_more c.in-Some.others.now c.loop-node.node-index e (string_bytes c.append_node.new.text) c.loop-node-test.true c.node-item.is)
 

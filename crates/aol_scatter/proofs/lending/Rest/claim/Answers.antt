@@ -1,7 +1,7 @@
 use Rattle.std.proofs.Common.{Some, map, length, sym, ap, ◌∙◌, subst, All}
 use Rattle.aol_scatter.specs.Cells.{cell, IsHeld, HoldsOnly, picked, values_at}
 use Rattle.aol_scatter.proofs.Memory.{length-without, length-picked}
-use Rattle.aol_scatter.proofs.Places.{picked_holds, picked_only, picked_values}
+use Rattle.aol_scatter.proofs.Places.{length-values, picked_holds, picked_only, picked_values}
 use Rattle.aol_scatter.proofs.lending.Rest.claim.Goals as goal
 
 pub invariant_of-self : goal.invariant_of-self
@@ -27,3 +27,6 @@ returns-clause-values g c =
     let same = c.split-part.ensures.5 ∙ ap (λ ns. picked ns cs) c.as_slice.ensures in
     let free = subst (λ v. All (λ k. IsHeld v.cells k) ks) (sym c.self.view_is) c.requires.unclaimed in
     ap (λ ds. map Some (values_at ds ks)) same ∙ picked_values cs ks free ∙ ap (λ v. map (λ k. cell v.cells k) ks) c.self.view_is
+
+pub returns-clause-as_many : goal.returns-clause-as_many
+returns-clause-as_many g c = length-values c.split-part.result.cells c.args.cells (invariant_of-result g c).2

@@ -21,3 +21,6 @@ returns-clause-others g c =
     let long = ap (λ v. v.name.len) c.share.view_is ∙ ap (λ n. n.len) c.requires ∙ sym (ap (λ v. v.name.len) c.self.view_is) ∙ sym c.self.invariant.1 in
     λ k out. ap (λ l. cell l k) c.join.ensures.2 ∙ merged_others cs ds ks (omega (arith, long)) c.share.invariant.3 k (subst (λ v. ¬ Contains v.cells k) (sym c.share.view_is) out)
     ∙ ap (λ v. cell v.cells k) c.self.view_is
+
+pub returns-clause-len : goal.returns-clause-len
+returns-clause-len g c = ap length c.join.ensures.2 ∙ length-merged c.self.inside.part.cells c.share.inside.part.cells ∙ ap (λ v. length v.cells) c.self.view_is

@@ -14,6 +14,7 @@ loop-share-preserved g c =
       after (λ s. s.cells) (λ s. s.values) (λ k. cell r k) (λ k. cell q k) all m share at c.settle-cells.ensures.values c.settle-cells.ensures.others
           (λ w d lt below. subst (λ s. AreApart s.cells (get_or all w d).cells) (at d) (c.requires.apart m w d lt below)) (λ w d le lt. inv.3 w d (omega (arith, le, more)) lt),
       λ k out. c.settle-cells.ensures.others k (subst (λ s. ¬ Contains s.cells k) (at share) (out m share (omega arith) (omega (arith, more, inv.1)))) ∙ inv.4 k (λ w d le lt. out w d (omega (arith, le, more)) lt),
+      c.settle-cells.ensures.len ∙ inv.5,
     )
 
 pub returns-clause-others : goal.returns-clause-others

@@ -2,7 +2,7 @@ use Rattle.std.proofs.Common.{◌<◌, Some, length, get_or, set, sym, ap, ◌�
 use mathlib.Core.Logic.{inr}
 use Rattle.aol_scatter.specs.Cells.{IsHeld, HoldsOnly, values_at}
 use Rattle.aol_scatter.proofs.Memory.{held_within}
-use Rattle.aol_scatter.proofs.Places.{value_set, holds_set, only_set}
+use Rattle.aol_scatter.proofs.Places.{length-values, value_set, holds_set, only_set}
 use Rattle.aol_scatter.proofs.lending.Share.put.Goals as goal
 
 pub put-requires : goal.put-requires
@@ -24,3 +24,6 @@ returns-clause-values g c =
     let lt = subst (λ w. j < length w.cells) (sym c.self.view_is) c.requires in
     let same = c.put.ensures.2 ∙ ap (λ l. set cs (get_or l j 0) (Some v)) c.as_slice-cells.ensures in
     ap (λ ds. values_at ds ks) same ∙ value_set cs ks j v inv.1 inv.2 lt ∙ ap (λ w. set w.values j v) c.self.view_is
+
+pub returns-clause-as_many : goal.returns-clause-as_many
+returns-clause-as_many g c = length-values c.put.new.self.cells c.self.inside.cells (invariant_of-self g c).2

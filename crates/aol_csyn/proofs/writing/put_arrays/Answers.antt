@@ -1,0 +1,5 @@
+use Rattle.aol_csyn.proofs.Written.{adds_both}
+use Rattle.aol_csyn.proofs.writing.put_arrays.Goals as goal
+
+pub returns : goal.returns
+returns g c = adds_both (adds_both c.put_count.ensures c.put_count-2.ensures) c.put.ensures

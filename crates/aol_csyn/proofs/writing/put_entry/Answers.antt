@@ -1,0 +1,5 @@
+use Rattle.aol_csyn.proofs.Written.{adds_both}
+use Rattle.aol_csyn.proofs.writing.put_entry.Goals as goal
+
+pub returns : goal.returns
+returns g c = adds_both c.put_cell.ensures c.put_assigned.ensures

@@ -1,0 +1,108 @@
+-- Objects whose members are read in two groups are what the definitions of reading say.
+use Rattle.std.proofs.Common.{◌≡◌, ℕ, List, [], ◌∷◌, length, Bool, Result, Ok, Err, refl, ap}
+use Rattle.serde_json.specs.Data.{Data}
+use Rattle.aol_tiler.specs.Matrices.{TilerOf}
+use Rattle.aol_reshape.specs.declared.reshape.Reshape.{Reshape}
+use Rattle.aol_link.specs.declared.link.Interlink.{Interlink}
+use Rattle.aol_model_types.specs.declared.place.Key.TheVariants.{KModel, KInput, KTransform, KAllocate, KKind, KName, KIn, KOut, KParts, KLinks, KReshapes, KTask, KFrom, KTo, KSpace, KPattern, KSource, KTarget, KTilers, KTiler, KDistance, KModulo, KDefault, KBlock, KFirst, KSecond, KPicks, KLeaf, KProcessors}
+use Rattle.aol_model_types.specs.declared.document.Document.{Document}
+use Rattle.aol_model_types.specs.declared.document.Model.{Model}
+use Rattle.aol_model_types.specs.declared.job.Entry.{Entry}
+use Rattle.aol_model_types.specs.declared.job.InputArray.{InputArray}
+use Rattle.aol_model_types.specs.declared.job.Job.{Job}
+use Rattle.aol_model_types.specs.declared.job.Step.{Step}
+use Rattle.aol_model_types.specs.declared.task.Copied.{Copied}
+use Rattle.aol_model_types.specs.declared.task.Hook.{Hook}
+use Rattle.aol_model_types.specs.declared.task.Task.{Task}
+use Rattle.aol_model_types.specs.Reading.{At, Fault, ◌>>=◌, ◌>>◌, object_at, member_at, list_of, name_at, shape_at, vector_at, tiler_at, hook_at, port_at, input_port_at, output_port_at, outputs_of, leaf_at, input_at, step_at, entry_at, model_at, elementary_at, compound_at, repeated_at, copied_at, interlink_at, fuse_at, members_in}
+use Rattle.aol_document.specs.Parts.{elementary_with, elementary_by_parts, compound_with, compound_by_parts, repeated_with, repeated_by_parts, copied_by_parts, interlink_with, interlink_by_parts, fuse_with, fuse_by_parts, entry_with, entry_by_parts, members_by_parts}
+
+-- three readings, the third by what the second gave
+abbrev three_of : {A B C : Type 0} → Result A Fault → Result B Fault → (B → Result C Fault) → Result (A × B × C) Fault
+three_of r s t = r >>= (λ a. s >>= (λ b. t b >>= (λ c. Ok (a, b, c))))
+
+module _ {A B C E : Type 0} (k : A → B → C → Result E Fault) where
+  last : (a : A) (b : B) (t : Result C Fault) → (three_of (Ok a) (Ok b) (λ _. t) >>= (λ p. k p.0 p.1 p.2)) ≡ (t >>= (λ c. k a b c))
+  last a b (Ok c) = refl
+  last a b (Err e) = refl
+
+  -- what goes on with three values goes on with each as it is read
+  three : (r : Result A Fault) (s : Result B Fault) (t : B → Result C Fault) → (three_of r s t >>= (λ p. k p.0 p.1 p.2)) ≡ (r >>= (λ a. s >>= (λ b. t b >>= (λ c. k a b c))))
+  three (Ok a) (Ok b) t = last a b (t b)
+  three (Ok a) (Err e) t = refl
+  three (Err e) s t = refl
+
+module _ (at : At) (d : Data) where
+  pub elementary_is : elementary_by_parts at d ≡ elementary_at at d
+  elementary_is = ap (λ (r : Result Task Fault). object_at (KKind ∷ KName ∷ KIn ∷ KOut ∷ []) [] at d >> r)
+      (three (λ name ins outs. Ok (elementary_with name ins outs)) (member_at at d KName name_at) (member_at at d KIn (list_of input_port_at)) (λ ins. member_at at d KOut (outputs_of (length ins) output_port_at)))
+
+  pub compound_is : compound_by_parts at d ≡ compound_at at d
+  compound_is = ap (λ (r : Result Task Fault). object_at (KKind ∷ KName ∷ KIn ∷ KOut ∷ KParts ∷ KLinks ∷ KReshapes ∷ []) [] at d >> r)
+      (three (compound_with at d) (member_at at d KName name_at) (member_at at d KIn (list_of port_at)) (λ ins. member_at at d KOut (outputs_of (length ins) port_at)))
+
+  pub repeated_is : (later : Bool) → repeated_by_parts later at d ≡ repeated_at later at d
+  repeated_is later = ap (λ (r : Result Task Fault). object_at (KKind ∷ KName ∷ KIn ∷ KOut ∷ KSpace ∷ KTask ∷ KTilers ∷ KLinks ∷ []) [] at d >> r)
+      (three (repeated_with later at d) (member_at at d KName name_at) (member_at at d KIn (list_of port_at)) (λ ins. member_at at d KOut (outputs_of (length ins) port_at)))
+
+  pub interlink_is : (later : Bool) → interlink_by_parts later at d ≡ interlink_at later at d
+  interlink_is later = ap (λ (r : Result Interlink Fault). object_at (KFrom ∷ KTo ∷ KDistance ∷ KModulo ∷ KDefault ∷ []) [] at d >> r)
+      (three (interlink_with later at d) (member_at at d KFrom name_at) (member_at at d KTo name_at) (λ _. member_at at d KDistance vector_at))
+
+  pub fuse_is : fuse_by_parts at d ≡ fuse_at at d
+  fuse_is = ap (λ (r : Result Step Fault). object_at (KKind ∷ KTask ∷ KFirst ∷ KSecond ∷ KBlock ∷ KTiler ∷ KPicks ∷ []) [] at d >> r)
+      (three (fuse_with at d) (member_at at d KTask name_at) (member_at at d KFirst name_at) (λ _. member_at at d KSecond name_at))
+
+-- ---- groups within other members
+
+module _ (k : List ℕ → List ℕ → List ℕ → List ℕ → Result Entry Fault) where
+  with_leaf : (l : Result (List ℕ) Fault) (r s t : Result (List ℕ) Fault) → (l >>= (λ leaf. three_of r s (λ _. t) >>= (λ p. k leaf p.0 p.1 p.2))) ≡ (l >>= (λ leaf. r >>= (λ a. s >>= (λ b. t >>= (λ c. k leaf a b c)))))
+  with_leaf (Ok leaf) r s t = three (k leaf) r s (λ _. t)
+  with_leaf (Err e) r s t = refl
+
+pub entry_is : (at : At) (d : Data) → entry_by_parts at d ≡ entry_at at d
+entry_is at d = ap (λ (r : Result Entry Fault). object_at (KLeaf ∷ KProcessors ∷ KSpace ∷ KPattern ∷ KFrom ∷ KTo ∷ []) [] at d >> r)
+    (with_leaf (entry_with at d) (member_at at d KLeaf leaf_at) (member_at at d KProcessors shape_at) (member_at at d KSpace shape_at) (member_at at d KPattern shape_at))
+
+abbrev reshape_from : List ℕ → List ℕ → TilerOf → TilerOf → Reshape
+reshape_from space pattern source target = record { space = space; pattern = pattern; source = source; target = target }
+
+abbrev copy_from : Hook → Hook → Reshape → Copied
+copy_from from to by = record { from = from; to = to; by = by }
+
+abbrev reshaped : Result (List ℕ) Fault → Result (List ℕ) Fault → Result TilerOf Fault → Result TilerOf Fault → Result Reshape Fault
+reshaped r s t u = r >>= (λ space. s >>= (λ pattern. t >>= (λ source. u >>= (λ target. Ok (reshape_from space pattern source target)))))
+
+copied_by : (f g : Result Hook Fault) (r s : Result (List ℕ) Fault) (t u : Result TilerOf Fault) → (f >>= (λ from. g >>= (λ to. reshaped r s t u >>= (λ by. Ok (copy_from from to by)))))
+    ≡ (f >>= (λ from. g >>= (λ to. r >>= (λ space. s >>= (λ pattern. t >>= (λ source. u >>= (λ target. Ok (copy_from from to (reshape_from space pattern source target)))))))))
+copied_by (Ok from) (Ok to) (Ok a) (Ok b) (Ok c) (Ok d) = refl
+copied_by (Ok from) (Ok to) (Ok a) (Ok b) (Ok c) (Err e) = refl
+copied_by (Ok from) (Ok to) (Ok a) (Ok b) (Err e) u = refl
+copied_by (Ok from) (Ok to) (Ok a) (Err e) t u = refl
+copied_by (Ok from) (Ok to) (Err e) s t u = refl
+copied_by (Ok from) (Err e) r s t u = refl
+copied_by (Err e) g r s t u = refl
+
+pub copied_is : (at : At) (d : Data) → copied_by_parts at d ≡ copied_at at d
+copied_is at d = ap (λ (r : Result Copied Fault). object_at (KFrom ∷ KTo ∷ KSpace ∷ KPattern ∷ KSource ∷ KTarget ∷ []) [] at d >> r)
+    (copied_by (member_at at d KFrom hook_at) (member_at at d KTo hook_at) (member_at at d KSpace shape_at) (member_at at d KPattern shape_at) (member_at at d KSource tiler_at) (member_at at d KTarget tiler_at))
+
+abbrev job_from : List InputArray → List Step → List Entry → Job
+job_from input transform allocate = record { input = input; transform = transform; allocate = allocate }
+
+abbrev document_from : Model → Job → Document
+document_from model job = record { model = model; job = job }
+
+abbrev job_by : Result (List InputArray) Fault → Result (List Step) Fault → Result (List Entry) Fault → Result Job Fault
+job_by i s e = i >>= (λ input. s >>= (λ transform. e >>= (λ allocate. Ok (job_from input transform allocate))))
+
+document_by : (m : Result Model Fault) (i : Result (List InputArray) Fault) (s : Result (List Step) Fault) (e : Result (List Entry) Fault) → (m >>= (λ model. job_by i s e >>= (λ job. Ok (document_from model job))))
+    ≡ (m >>= (λ model. i >>= (λ input. s >>= (λ transform. e >>= (λ allocate. Ok (document_from model (job_from input transform allocate)))))))
+document_by (Ok model) (Ok input) (Ok transform) (Ok allocate) = refl
+document_by (Ok model) (Ok input) (Ok transform) (Err x) = refl
+document_by (Ok model) (Ok input) (Err x) e = refl
+document_by (Ok model) (Err x) s e = refl
+document_by (Err x) i s e = refl
+
+pub members_are : (later : Bool) (d : Data) → members_by_parts later d ≡ members_in later d
+members_are later d = document_by (member_at [] d KModel (model_at later)) (member_at [] d KInput input_at) (member_at [] d KTransform (list_of step_at)) (member_at [] d KAllocate (list_of entry_at))

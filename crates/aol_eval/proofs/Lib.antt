@@ -1,0 +1,6 @@
+pub mod Places
+pub mod Evaluation
+pub mod Plans
+pub mod LaneSteps
+pub mod NoRange
+pub mod LineSteps

@@ -1,0 +1,6 @@
+use Rattle.std.proofs.Common.{◌≡◌, ℕ, ◌<◌, pos, get_or, true}
+use Rattle.aol_expr_tree.specs.Meaning.{is_zero}
+use Rattle.aol_eval.proofs.columns.all_zero.Given as goal
+
+abbrev pub invariant-loop-z : goal.invariant-loop-z
+invariant-loop-z l = (i : ℕ) → i < l.z-index → is_zero (get_or l.column i (pos 0)) ≡ true

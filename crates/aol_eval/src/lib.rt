@@ -1,0 +1,27 @@
+//! The values of expressions: at one point, or of an expression whose names have become places, at many.
+//!
+//! Read `eval` first, whose value is that of `aol_expr_tree`'s `specs/Meaning.antt`, then `Resolved`.
+//!
+//! `Resolved` computes up to 128 terms of a sum at once, in lanes (`lanes`, `columns`). A read whose indices stay or go
+//! up by one from lane to lane is checked once for all lanes, and goes on by one step in memory (`lines`). Where some
+//! lane may be a fault, the terms are computed one by one (`run`), so that the fault that is told is the first.
+#![tactic(auto)]
+
+mod arithmetic;
+mod columns;
+mod evaluate;
+mod inputs;
+mod lanes;
+mod lines;
+mod pattern;
+mod place;
+mod resolution;
+mod resolve;
+mod run;
+mod shared;
+mod step;
+mod vars;
+
+pub use evaluate::eval;
+pub use resolution::Resolved;
+pub use shared::types_are_shared;

@@ -1,5 +1,0 @@
-use Rattle.aol_expr.proofs.Again.{read_again}
-use Rattle.aol_expr.proofs.laws.expressions_are_read_again.Goals as goal
-
-pub returns : goal.returns
-returns c = read_again

@@ -1,5 +1,0 @@
-use Rattle.aol_expr.proofs.Completed.{right}
-use Rattle.aol_expr.proofs.laws.expressions_are_read_right.Goals as goal
-
-pub returns : goal.returns
-returns c = right

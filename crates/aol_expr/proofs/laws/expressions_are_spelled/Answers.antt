@@ -1,5 +1,0 @@
-use Rattle.aol_expr.proofs.Again.{canonical_right}
-use Rattle.aol_expr.proofs.laws.expressions_are_spelled.Goals as goal
-
-pub returns : goal.returns
-returns c = canonical_right

@@ -1,5 +1,0 @@
-use Rattle.aol_expr.proofs.Unique.{one_tree}
-use Rattle.aol_expr.proofs.laws.expressions_have_one_reading.Goals as goal
-
-pub returns : goal.returns
-returns c = one_tree

@@ -1,8 +1,0 @@
-use Rattle.std.proofs.Common.{◌≡◌, drop}
-use Rattle.aol_expr.specs.Names.{all_names_ok}
-use Rattle.aol_expr.specs.Node.{trees_of}
-use Rattle.aol_expr.specs.Vars.{names_of}
-use Rattle.aol_expr.proofs.names.+named.Given as goal
-
-abbrev pub invariant-all_named-loop-node : goal.invariant-all_named-loop-node
-invariant-all_named-loop-node l = all_names_ok l.ins l.out_rank (names_of l.bound) (trees_of l.nodes) ≡ all_names_ok l.ins l.out_rank (names_of l.bound) (trees_of (drop l.node-index l.nodes))

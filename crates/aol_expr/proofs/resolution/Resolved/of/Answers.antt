@@ -1,5 +1,0 @@
-use Rattle.aol_expr.proofs.Plans.{run-resolved}
-use Rattle.aol_expr.proofs.resolution.Resolved.of.Goals as goal
-
-pub returns : goal.returns
-returns c nums at = rw c.in_ok-root.ensures (run-resolved (record { ins = c.args.ins.now; nums = nums; at = at }) c.args.e.now)

@@ -1,8 +1,0 @@
-use Rattle.std.proofs.Common.{◌≡◌, map, take}
-use Rattle.aol_expr.specs.Resolved.{plan_of}
-use Rattle.aol_expr.specs.Vars.{names_of}
-use Rattle.aol_expr.proofs.Plans.{plan_at}
-use Rattle.aol_expr.proofs.resolve.+resolve.Given as goal
-
-abbrev pub invariant-steps_of-loop-node : goal.invariant-steps_of-loop-node
-invariant-steps_of-loop-node l = map plan_of l.steps ≡ map (plan_at l.ins (names_of l.bound)) (take l.node-index l.node-items)

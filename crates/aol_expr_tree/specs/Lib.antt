@@ -1,0 +1,16 @@
+pub mod Tree
+pub mod Code
+pub mod Node
+pub mod Text
+pub mod Writing
+pub mod Reading
+pub mod Meaning
+pub mod Names
+pub mod Answers
+pub mod Counted
+pub mod Parts
+pub mod Bytes
+pub mod Words
+pub mod Decimals
+pub mod Digits
+pub mod BoundNames

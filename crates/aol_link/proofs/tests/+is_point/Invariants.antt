@@ -1,5 +1,0 @@
-use Rattle.std.proofs.Common.{length}
-use Rattle.aol_link.proofs.tests.+is_point.Given as goal
-
-abbrev pub decreases-is_point : goal.decreases-is_point
-decreases-is_point l = length l.shape.now

@@ -1,5 +1,0 @@
-use Rattle.aol_model.proofs.Walks.{told}
-use Rattle.aol_model.proofs.agree.model.shapes_agree.Goals as goal
-
-pub returns-clause-first : goal.returns-clause-first
-returns-clause-first c = told _ _ c.test_model.ensures

@@ -1,8 +1,0 @@
-use Rattle.std.proofs.Common.{◌≡◌}
-use Rattle.aol_model.specs.Rules.{each, task_checks}
-use Rattle.aol_model.specs.Walk.{first_failing}
-use Rattle.aol_model.proofs.Walks.{behind}
-use Rattle.aol_model.proofs.agree.model.test_tasks.Given as goal
-
-abbrev pub invariant-loop-k : goal.invariant-loop-k
-invariant-loop-k l = first_failing (each task_checks l.at l.list) ≡ behind task_checks l.at l.list l.k

@@ -1,6 +1,0 @@
-use Rattle.std.proofs.Common.{map, take}
-use Rattle.aol_model.specs.Names.{Finds}
-use Rattle.aol_model.proofs.agree.names.places_of.Given as goal
-
-abbrev pub invariant-loop-place : goal.invariant-loop-place
-invariant-loop-place g l = Finds (map g.T.Named.name (take l.place l.list)) l.places

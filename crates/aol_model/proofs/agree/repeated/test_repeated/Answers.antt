@@ -1,4 +1,0 @@
-use Rattle.aol_model.proofs.agree.repeated.test_repeated.Goals as goal
-
-pub returns : goal.returns
-returns c = c.test_repetition.ensures

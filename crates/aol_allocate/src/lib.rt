@@ -1,0 +1,14 @@
+//! The placement of instances on workers.
+#![tactic(auto)]
+
+mod cause;
+mod fault;
+mod laws;
+mod limits;
+mod marks;
+mod placed;
+
+pub use cause::{PlaceCause, PlaceRefused};
+pub use laws::{entries_place_once, workers_are_a_placement};
+pub use limits::MAX_WORKERS;
+pub use placed::Placed;

@@ -31,6 +31,11 @@ MarksAll e workers space (Some x) marks = (x < size space) × (first_again [] (p
 abbrev pub placed_workers : Entry → ℕ → List ℕ → List ℕ
 placed_workers e workers space = map (placed_worker e space workers) (points space)
 
+-- the cause of an entry over a space, or else each point is marked by its worker
+abbrev pub MarksSpace : Entry → ℕ → List ℕ → Option PlaceCause → List ℕ → Type 0
+MarksSpace e workers space None marks = (space_cause e space ≡ None) × (marks ≡ placed_workers e workers space)
+MarksSpace e workers space (Some c) marks = space_cause e space ≡ Some c
+
 -- an entry has no cause over a space and places all its points, or has a cause
 abbrev pub PlacesSpace : Entry → ℕ → List ℕ → Result (List ℕ) PlaceFault → Type 0
 PlacesSpace e workers space (Ok placed) = (space_cause e space ≡ None) × (placed ≡ placed_workers e workers space)

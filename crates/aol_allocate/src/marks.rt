@@ -1,9 +1,9 @@
 //! One entry over the space of its leaf: each point is marked by the worker on which a pair places it.
 
-ghost use Rattle.std.specs.Prelude.{◌≡◌, ◌<◌, ◌≤◌, ◌==◌, ◌&&◌, true, [], length, position};
+ghost use Rattle.std.specs.Prelude.{◌≡◌, ◌<◌, ◌≤◌, ◌==◌, ◌&&◌, true, length, position, replicate, IfOk};
 ghost use Rattle.aol_shape.specs.Shape.{IsShape, size, point_at};
 ghost use Rattle.aol_tiler.specs.Tiler.{Fits, fits};
-ghost use Rattle.aol_allocate.specs.Marks.{MarksAll, PlacesSpace, marks_after};
+ghost use Rattle.aol_allocate.specs.Marks.{MarksAll, MarksSpace, PlacesSpace};
 
 use crate::cause::PlaceCause;
 use crate::fault::PlaceFault;
@@ -32,7 +32,8 @@ fn mark_all(entry: &Entry, space: &Shape, workers: u32, marks: &mut [u8]) -> Opt
     requires to { Fits entry.now.to entry.now.processors entry.now.space entry.now.pattern }
     requires some { 1 ≤ workers }
     requires bound { workers ≤ MAX_WORKERS }
-    requires empty { marks.old ≡ marks_after entry.now workers space.now [] }
+    requires shape { IsShape space.now }
+    requires empty { marks.old ≡ replicate (size space.now) UNPLACED }
     ensures { MarksAll entry.now workers space.now result marks.new }
 {
     let mut from = Walker::start(&entry.from, space, &entry.space, &entry.pattern);
@@ -68,5 +69,62 @@ fn point_of(alloc: Global, space: &Shape, rank: u32) -> Point
     match Point::new(alloc, indices) {
         Some(point) => point,
         None => unreachable!(),
+    }
+}
+
+/// Marks that say of each point that nothing is placed there.
+fn no_marks(alloc: Global, count: u32) -> Result<Vec<u8>, AllocError>
+    ensures { IfOk result (λ marks. marks.items ≡ replicate count UNPLACED) }
+{
+    let mut marks = Vec::new(alloc);
+    marks.resize(count as usize, UNPLACED)?;
+    Ok(marks)
+}
+
+/// Marks all points of a space, or tells why the entry doesn't place them.
+fn mark_space(
+    alloc: Global,
+    entry: &Entry,
+    space: &Shape,
+    workers: u32,
+    marks: &mut [u8],
+) -> Option<PlaceCause>
+    requires shape { IsShape space.now }
+    requires some { 1 ≤ workers }
+    requires bound { workers ≤ MAX_WORKERS }
+    requires empty { marks.old ≡ replicate (size space.now) UNPLACED }
+    ensures { MarksSpace entry.now workers space.now result marks.new }
+{
+    if !tilers_fit(entry, space) {
+        return Some(PlaceCause::Shape);
+    }
+    if let Some(rank) = mark_all(entry, space, workers, marks) {
+        return Some(PlaceCause::Twice(point_of(alloc, space, rank)));
+    }
+    let Some(rank) = first_unplaced(marks) else {
+        return None;
+    };
+    Some(PlaceCause::Unplaced(point_of(alloc, space, rank as u32)))
+}
+
+/// The worker of each point of a leaf's space as the entry places it, or why it doesn't.
+///
+/// Each pair of a repetition and a pattern element of the entry places one point. It takes one step for each pair and
+/// one for each point.
+pub fn place_space(
+    alloc: Global,
+    entry: &Entry,
+    space: &Shape,
+    workers: u32,
+) -> Result<Items<u8>, PlaceFault>
+    requires shape { IsShape space.now }
+    requires some { 1 ≤ workers }
+    requires bound { workers ≤ MAX_WORKERS }
+    ensures { PlacesSpace entry.now workers space.now result }
+{
+    let mut marks = no_marks(alloc, space.size())?;
+    match mark_space(alloc, entry, space, workers, marks.as_mut_slice()) {
+        Some(cause) => Err(PlaceFault::Cause(cause)),
+        None => Ok(Items::from_vec(marks)),
     }
 }

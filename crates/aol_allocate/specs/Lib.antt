@@ -1,3 +1,4 @@
 pub mod Placement
 pub mod Workers
 pub mod Marks
+pub mod Tables

@@ -6,6 +6,7 @@ mod fault;
 mod laws;
 mod limits;
 mod marks;
+mod paths;
 mod placed;
 
 pub use cause::{PlaceCause, PlaceRefused};

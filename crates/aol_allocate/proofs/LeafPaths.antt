@@ -92,3 +92,20 @@ leaf_by_number m path k l h at = ap (option_and_then (slice_get (leaves m))) h �
 
 pub no_leaf : (m : Model) (path : List ℕ) → leaf_number m path ≡ None → leaf_of_path m path ≡ None
 no_leaf m path h = ap (option_and_then (slice_get (leaves m))) h
+
+-- paths with one number are one path
+pub one_path : (m : Model) (p q : List ℕ) (k : ℕ) → leaf_number m p ≡ Some k → leaf_number m q ≡ Some k → p ≡ q
+one_path m p q k g h =
+    let a = found_leaf m p k g in
+    let b = found_leaf m q k h in
+    let both : Some a.leaf ≡ Some b.leaf = sym a.at ∙ b.at in
+    let leaf : a.leaf ≡ b.leaf = cc in
+    sym a.own_path ∙ (ap (leaf_path m) leaf ∙ b.own_path)
+
+-- the leaf with that number computes
+pub elementary_at : (m : Model) (path : List ℕ) (k : ℕ) (l : Leaf) → leaf_number m path ≡ Some k → slice_get (leaves m) k ≡ Some l → computes l.work ≡ true
+elementary_at m path k l h at =
+    let f = found_leaf m path k h in
+    let both : Some l ≡ Some f.leaf = sym at ∙ f.at in
+    let leaf : l ≡ f.leaf = cc in
+    ap (λ (x : Leaf). computes x.work) leaf ∙ f.elementary

@@ -1,13 +1,12 @@
 -- The cause of an entry over a space, by what its parts tell.
-use Rattle.std.proofs.Common.{◌≡◌, ℕ, ◌<◌, ◌≤◌, ◌==◌, Bool, true, false, cond, ◌&&◌, not, nat_lt, List, [], length, position, Option, Some, None, sym, ◌∙◌, ap, refl, arith}
+use Rattle.std.proofs.Common.{◌≡◌, ℕ, ◌<◌, ◌≤◌, ◌==◌, true, cond, ◌&&◌, not, nat_lt, List, [], length, position, Some, None, sym, ◌∙◌, ap, arith}
 use Rattle.std.proofs.lemmas.Bool.Decides.{nat_tests}
 use Rattle.aol_shape.specs.Shape.{max_rank, max_points, size, point_at, points, IsShape}
 use Rattle.aol_tiler.specs.Tiler.{fits}
 use Rattle.aol_model_types.specs.declared.job.Entry.{Entry}
-use Rattle.aol_allocate.specs.declared.cause.PlaceCause.{PlaceCause}
 use Rattle.aol_allocate.specs.declared.cause.PlaceCause.TheVariants.{Shape, Unplaced}
-use Rattle.aol_allocate.specs.Placement.{Placing, placings, first_again, first_missing, fits_leaf, points_cause, missing_cause, space_cause}
-use Rattle.aol_allocate.specs.Marks.{marks_after, placed_workers, MarksAll}
+use Rattle.aol_allocate.specs.Placement.{placings, first_again, first_missing, fits_leaf, points_cause, missing_cause, space_cause}
+use Rattle.aol_allocate.specs.Marks.{placed_workers, MarksAll}
 use Rattle.aol_allocate.proofs.Missing.{all_placed, none_is_missing, missing_at, marks_are_workers}
 
 not_less : (a b : ℕ) → a ≤ b → not (nat_lt b a) ≡ true
@@ -35,11 +34,12 @@ unplaced_told e workers space marks k x some bound h all found is =
 pub none_told : (e : Entry) (workers : ℕ) (space marks : List ℕ) → fits_leaf e space ≡ true → MarksAll e workers space None marks → position (λ mark. mark == 255) marks ≡ None
     → (space_cause e space ≡ None) × (marks ≡ placed_workers e workers space)
 none_told e workers space marks h all found =
-    let placed = all_placed e workers space (placings e space) (sym (ap (position (λ mark. mark == 255)) all.1) ∙ found) in
-    (points_told e space h
-    ∙ (ap (λ o. points_cause o (first_missing (placings e space) (points space))) all.0
-    ∙ ap missing_cause (none_is_missing space (placings e space) placed)),
-    all.1 ∙ marks_are_workers e workers space placed)
+    let placed = all_placed e workers space (placings e space) (sym (ap (position (λ mark. mark == 255)) all.1) ∙ found) in (
+      points_told e space h
+          ∙ (ap (λ o. points_cause o (first_missing (placings e space) (points space))) all.0
+          ∙ ap missing_cause (none_is_missing space (placings e space) placed)),
+      all.1 ∙ marks_are_workers e workers space placed,
+    )
 
 -- a rank that is not marked is in the space
 pub unplaced_below : (e : Entry) (workers : ℕ) (space marks : List ℕ) (k : ℕ) → 1 ≤ workers → workers ≤ 64 → MarksAll e workers space None marks → position (λ mark. mark == 255) marks ≡ Some k

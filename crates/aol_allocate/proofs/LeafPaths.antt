@@ -1,9 +1,9 @@
 -- The numbers of elementary leaves by their paths.
-use Rattle.std.proofs.Common.{◌≡◌, ℕ, zero, suc, ◌+◌, ◌<◌, Bool, true, false, cond, ◌&&◌, ◌==◌, List, [], ◌∷◌, length, drop, get_or, Option, Some, None, slice_get, option_and_then, sym, ◌∙◌, ap, refl, subst, arith, add-one, nat_eq}
+use Rattle.std.proofs.Common.{◌≡◌, ℕ, suc, ◌+◌, Bool, true, false, cond, ◌&&◌, List, [], ◌∷◌, drop, Option, Some, None, slice_get, option_and_then, sym, ◌∙◌, ap, refl, subst, arith, add-one, nat_eq}
 use Rattle.std.specs.Str.{bytes_eq}
 use Rattle.std.proofs.Math.Seq.{drop-cons}
 use Rattle.std.proofs.lemmas.Bool.Decides.{nat_tests}
-use Rattle.std.proofs.lemmas.Option.{get_or_from_slice_get, slice_get_within, none-some}
+use Rattle.std.proofs.lemmas.Option.{get_or_from_slice_get, slice_get_within}
 use Rattle.aol_shape.specs.Lists.{same}
 use Rattle.aol_shape.proofs.SameTexts.{pointwise_same}
 use Rattle.aol_model_types.specs.declared.document.Model.{Model}

@@ -1,5 +1,5 @@
 -- The entries of the spaces of elementary leaves are those of shapes.
-use Rattle.std.proofs.Common.{◌≡◌, ℕ, zero, suc, ◌+◌, ◌<◌, Bool, true, false, cond, List, [], ◌∷◌, ◌++◌, length, map, flat_map, find, Option, Some, None, slice_get, sym, ◌∙◌, ap, refl, subst, arith, inl, inr}
+use Rattle.std.proofs.Common.{◌≡◌, ℕ, zero, suc, Bool, true, false, List, [], ◌∷◌, ◌++◌, length, map, flat_map, find, Option, Some, None, slice_get, sym, ◌∙◌, ap, refl, subst, arith, inl, inr}
 use Rattle.std.specs.List.{IsAmong, AllByRecursion, enumerate_from}
 use Rattle.aol_shape.specs.Shape.{IsEntry}
 use Rattle.aol_model_types.specs.declared.document.Model.{Model}

@@ -1,5 +1,5 @@
 -- The first point that no pair places, and the workers where each is placed.
-use Rattle.std.proofs.Common.{◌≡◌, ℕ, zero, suc, ◌+◌, ◌<◌, ◌≤◌, ◌==◌, Bool, true, false, cond, ◌&&◌, List, [], ◌∷◌, map, length, replicate, get_or, position, slice_get, Option, Some, None, sym, ◌∙◌, ap, refl, arith}
+use Rattle.std.proofs.Common.{◌≡◌, ℕ, zero, suc, ◌+◌, ◌<◌, ◌≤◌, ◌==◌, Bool, true, false, cond, List, [], ◌∷◌, length, replicate, get_or, position, slice_get, Some, None, sym, ◌∙◌, ap, refl, arith}
 use Rattle.std.specs.List.{position_from}
 use Rattle.std.proofs.lemmas.Iterator.Adapters.{position_from-zero}
 use Rattle.std.proofs.lemmas.Bool.{eqb-true, eq-eqb}
@@ -12,7 +12,7 @@ use Rattle.aol_model_types.specs.declared.job.Entry.{Entry}
 use Rattle.aol_allocate.specs.Placement.{Placing, placings, is_placed, first_missing, worker_at, placed_worker}
 use Rattle.aol_allocate.specs.Marks.{mark_of, mark_at, marks_after, placed_workers}
 use Rattle.aol_allocate.proofs.Points.{points_at, points_number, points_same, point_there, length_points}
-use Rattle.aol_allocate.proofs.Marking.{placer, placer_some, mark_free, mark_taken}
+use Rattle.aol_allocate.proofs.Marking.{placer_some, mark_free, mark_taken}
 
 -- ---- what a mark tells
 

@@ -1,12 +1,12 @@
 -- What stands at the points of a space.
-use Rattle.std.proofs.Common.{◌≡◌, ◌≢◌, ℕ, zero, suc, ◌+◌, ◌<◌, ◌≤◌, List, [], ◌∷◌, map, length, get_or, slice_get, option_map, Some, sym, ◌∙◌, ap, refl, arith}
+use Rattle.std.proofs.Common.{◌≡◌, ◌≢◌, ℕ, zero, suc, ◌+◌, ◌<◌, ◌≤◌, List, ◌∷◌, map, length, get_or, slice_get, option_map, Some, sym, ◌∙◌, ap, refl, arith}
 use Rattle.std.proofs.Math.ListN.{set}
 use Rattle.std.proofs.lemmas.List.{length-map}
 use Rattle.std.proofs.lemmas.Option.{slice_get-map, slice_get_within}
 use Rattle.std.proofs.lemmas.Simd.{map-map}
 use Rattle.aol_shape.specs.Lists.{numbers_from, numbers_below}
 use Rattle.aol_shape.specs.Shape.{size, rank, point_at, points, IsPointOf}
-use Rattle.aol_shape.proofs.Points.{rank-lt-size, point_at-rank, point_at-is, rank-point_at}
+use Rattle.aol_shape.proofs.Points.{rank-lt-size, point_at-rank, rank-point_at}
 
 -- ---- numbers
 

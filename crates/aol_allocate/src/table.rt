@@ -34,7 +34,8 @@ pub struct Places<'a> {
 
 /// A row for each leaf, before any entry.
 pub fn no_rows(alloc: Global, flat: &Flat) -> Result<Items<Row>, AllocError>
-    ensures { IfOk result (λ rows. (workers : _) → IsTable flat.now.model workers [] rows) }
+    ensures none { IfOk result (λ rows. (workers : _) → IsTable flat.now.model workers [] rows) }
+    ensures few { length (leaves flat.now.model) < 2 ^ 32 }
 {
     let mut rows = Items::new(alloc);
     for _ in 0..flat.leaves() {
@@ -87,7 +88,11 @@ fn place_entry(from: Places, entry: &Entry, rows: &mut Items<Row>) -> Result<(),
 }
 
 /// Places all entries in order, up to the first that has a cause.
-pub fn place_entries(from: Places, entries: &[Entry], rows: &mut Items<Row>) -> Result<(), PlaceRefused>
+pub fn place_entries(
+    from: Places,
+    entries: &[Entry],
+    rows: &mut Items<Row>,
+) -> Result<(), PlaceRefused>
     requires sound { IsSound from.flat.now.model }
     requires numbers { FindsLeaves from.flat.now.model from.numbers.now }
     requires some { 1 ≤ from.workers }

@@ -1,7 +1,7 @@
-use Rattle.std.proofs.Common.{◌≡◌, ◌<◌, ◌++◌, ◌∷◌, [], length, None, Option, Some, Ok, Err, slice_get, List, ℕ, sym, ◌∙◌, ap, subst, arith}
+use Rattle.std.proofs.Common.{◌≡◌, ◌++◌, ◌∷◌, [], length, Option, Some, Ok, Err, slice_get, List, ℕ, sym, ◌∙◌, ap, subst, arith}
 use Rattle.std.specs.List.{AllByRecursion}
 use Rattle.aol_shape.specs.Shape.{IsEntry}
-use Rattle.aol_allocate.specs.Placement.{leaf_number, entry_cause}
+use Rattle.aol_allocate.specs.Placement.{leaf_number}
 use Rattle.aol_allocate.specs.Marks.{PlacesSpace}
 use Rattle.aol_allocate.specs.Tables.{IsTable}
 use Rattle.aol_allocate.proofs.LeafPaths.{found_leaf, elementary_at}

@@ -17,14 +17,23 @@ use aol_model_types::Entry;
 use aol_shape::Items;
 use std::alloc::{AllocError, Global};
 
+/// The worker of the instance with this rank among so many.
+fn worker_at(rank: u32, count: u32, workers: u32) -> u8
+    requires rank { rank < count }
+    requires workers { workers ≤ MAX_WORKERS }
+    ensures { result ≡ even_worker workers count rank }
+{
+    let worker = u64::from(rank) * u64::from(workers) / u64::from(count);
+    worker as u8
+}
+
 /// Shares so many instances out evenly, in order.
 fn push_evenly(of_instance: &mut Vec<u8>, count: u32, workers: u32) -> Result<(), AllocError>
     requires { workers ≤ MAX_WORKERS }
     ensures { OnOk result (of_instance.new.items ≡ of_instance.old.items ++ map (even_worker workers count) (numbers_below count)) }
 {
     for rank in 0..count {
-        let worker = u64::from(rank) * u64::from(workers) / u64::from(count);
-        of_instance.push(worker as u8)?;
+        of_instance.push(worker_at(rank, count, workers))?;
     }
     Ok(())
 }
@@ -62,4 +71,39 @@ fn all_workers(
         push_leaf(&mut of_instance, &rows[number as usize], count, workers)?;
     }
     Ok(Items::from_vec(of_instance))
+}
+
+/// Places each instance of a laid out model on one of the workers, which are from 1 to 64.
+///
+/// Each pair of a repetition and a pattern element of an entry places one point of the leaf's space on a processor,
+/// whose rank modulo the number of workers is the worker. Instances of a leaf that no entry names, copies too, are
+/// shared out evenly within their leaf. `Entry` tells the first entry that has a cause, and its first cause in the
+/// order of `PlaceCause`.
+pub fn allocate(
+    alloc: Global,
+    flat: &Flat,
+    entries: &Items<Entry>,
+    workers: u32,
+) -> Result<Placed, PlaceRefused>
+    requires some { 1 ≤ workers }
+    requires bound { workers ≤ MAX_WORKERS }
+    ensures causes { OnOk result (first_cause flat.now.model entries.now ≡ None) }
+    ensures number { IfOk result (λ placed. placed.workers ≡ workers) }
+    ensures of_instance { IfOk result (λ placed. placed.of_instance ≡ workers_of flat.now.model entries.now workers) }
+    ensures placement { IfOk result (λ placed. IsPlacement flat.now.model placed.of_instance placed.workers) }
+    ensures refused { (entry : ℕ) (cause : PlaceCause) → result ≡ Err (PlaceRefused.Entry entry cause) → first_cause flat.now.model entries.now ≡ Some (entry, cause) }
+{
+    // What is laid out is sound: `model` says so.
+    let _model = flat.model();
+    let numbers = leaf_numbers(alloc, flat)?;
+    let mut rows = no_rows(alloc, flat)?;
+    let places = Places {
+        alloc,
+        flat,
+        numbers: &numbers,
+        workers,
+    };
+    place_entries(places, entries.as_slice(), &mut rows)?;
+    let of_instance = all_workers(alloc, flat, rows.as_slice(), workers)?;
+    Ok(Placed::new(of_instance, workers))
 }

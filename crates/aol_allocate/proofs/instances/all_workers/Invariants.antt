@@ -1,7 +1,7 @@
 use Rattle.std.proofs.Common.{◌≡◌, ◌++◌, drop}
 use Rattle.aol_flat.specs.Instance.{leaves}
 use Rattle.aol_allocate.specs.Tables.{rows_workers}
-use Rattle.aol_allocate.proofs.allocate.all_workers.Given as goal
+use Rattle.aol_allocate.proofs.instances.all_workers.Given as goal
 
 abbrev pub invariant-loop-number : goal.invariant-loop-number
 invariant-loop-number l =

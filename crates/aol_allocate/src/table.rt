@@ -75,7 +75,8 @@ fn place_entry(from: Places, entry: &Entry, rows: &mut Items<Row>) -> Result<(),
     let Some(number) = number_of(from.numbers, &entry.leaf) else {
         return Err(PlaceFault::Cause(PlaceCause::NoLeaf));
     };
-    if rows.as_slice()[number as usize].is_some() {
+    let taken = rows.as_slice()[number as usize].is_some();
+    if taken {
         return Err(PlaceFault::Cause(PlaceCause::NoLeaf));
     }
     match place_leaf(from.alloc, entry, from.flat.leaf(number), from.workers) {

@@ -34,15 +34,15 @@ place_leaf-requires-clause-entries c =
     let computes = elementary_at m c.args.entry.now.leaf c.in-Some.number leaf.leaf number leaf.at in
     subst (AllByRecursion IsEntry) (sym leaf.space) (leaf_entries m c.requires.sound c.in-Some.number leaf.leaf leaf.at computes)
 
-pub returns-then-is_some-clause-next : goal.returns-then-is_some-clause-next
-returns-then-is_some-clause-next c = λ earlier table.
+pub returns-then-taken-clause-next : goal.returns-then-taken-clause-next
+returns-then-taken-clause-next c = λ earlier table.
     let m = c.args.from.flat.now.model in
     let number : leaf_number m c.args.entry.now.leaf ≡ Some c.in-Some.number = sym (c.number_of.ensures m c.requires.numbers) ∙ c.in-Some.is in
     let row = c.index-as_slice-number.result in
     let there : slice_get c.args.rows.now c.in-Some.number ≡ Some row =
     row_there m c.args.entry.now.leaf c.in-Some.number c.args.rows.now c.as_slice.result.now row number c.requires.many c.as_slice.ensures c.index-as_slice-number.is in
     let leaf = found_leaf m c.args.entry.now.leaf c.in-Some.number number in
-    taken m c.args.from.workers earlier c.args.rows.now table c.args.entry.now c.in-Some.number leaf.leaf number leaf.at row there (sym c.is_some.ensures ∙ c.if-is_some.true)
+    taken m c.args.from.workers earlier c.args.rows.now table c.args.entry.now c.in-Some.number leaf.leaf number leaf.at row there (sym c.is_some-taken.ensures ∙ c.if-taken.true)
 
 pub returns-in-Ok-clause-next : goal.returns-in-Ok-clause-next
 returns-in-Ok-clause-next c = λ earlier table.
@@ -55,7 +55,7 @@ returns-in-Ok-clause-next c = λ earlier table.
     let told : PlacesSpace c.args.entry.now c.args.from.workers leaf.leaf.space (Ok c.in-Ok.placed) =
     subst (λ (space : List ℕ). PlacesSpace c.args.entry.now c.args.from.workers space (Ok c.in-Ok.placed)) leaf.space c.in-Ok.ensures in
     let next = placed_next m c.args.from.workers earlier c.args.rows.now table c.args.entry.now c.in-Some.number leaf.leaf number leaf.at c.in-Ok.placed row there
-    (sym c.is_some.ensures ∙ c.if-is_some.false) told in
+    (sym c.is_some-taken.ensures ∙ c.if-taken.false) told in
     (next.0, subst (λ (rows : List (Option (List ℕ))). IsTable m c.args.from.workers (earlier ++ c.args.entry.now ∷ []) rows) (sym c.set.ensures) next.1)
 
 pub returns-in-Err-clause-next : goal.returns-in-Err-clause-next
@@ -69,4 +69,4 @@ returns-in-Err-clause-next c = λ earlier table.
     let told : PlacesSpace c.args.entry.now c.args.from.workers leaf.leaf.space (Err c.in-Err.fault) =
     subst (λ (space : List ℕ). PlacesSpace c.args.entry.now c.args.from.workers space (Err c.in-Err.fault)) leaf.space c.in-Err.ensures in
     refused_next m c.args.from.workers earlier c.args.rows.now table c.args.entry.now c.in-Some.number leaf.leaf number leaf.at c.in-Err.fault row c.args.rows.now there
-    (sym c.is_some.ensures ∙ c.if-is_some.false) told
+    (sym c.is_some-taken.ensures ∙ c.if-taken.false) told

@@ -105,37 +105,44 @@ is_some_map : {X Y : Type 0} (f : X → Y) (o : Option X) → is_some (option_ma
 is_some_map f None = refl
 is_some_map f (Some x) = refl
 
-none_map : {X Y : Type 0} (f : X → Y) (o : Option X) → option_map f o ≡ None → o ≡ None
-none_map f None h = refl
-none_map f (Some x) h = cc
+none_some : {X : Type 0} (o : Option X) → is_some o ≡ false → o ≡ None
+none_some None h = refl
+none_some (Some x) h = cc
 
 module _ (m : Model) (workers : ℕ) (earlier : List Entry) (rows : List (Option (List ℕ))) (table : IsTable m workers earlier rows) (e : Entry) (k : ℕ) (l : Leaf)
     (number : leaf_number m e.leaf ≡ Some k) (at : slice_get (leaves m) k ≡ Some l) where
-  row_is : (row : Option (List ℕ)) → slice_get rows k ≡ Some row → row ≡ row_of m workers earlier k l
-  row_is row there = let e : Some row ≡ Some (row_of m workers earlier k l) = sym there ∙ table.each k l at in cc
+  -- whether its row is there
+  abbrev pub HasRow : Bool → Type 0
+  HasRow b = (row : Option (List ℕ)) → slice_get rows k ≡ Some row → b ≡ is_some row
 
-  -- an earlier entry names the leaf where its row is there
-  named : (row : Option (List ℕ)) → slice_get rows k ≡ Some row → list_any (λ (f : Entry). same f.leaf e.leaf) earlier ≡ is_some row
-  named row there =
+  -- an earlier entry names the leaf exactly where its row is there
+  named : (b : Bool) → HasRow b → list_any (λ (f : Entry). same f.leaf e.leaf) earlier ≡ b
+  named b there =
       named_before m earlier e.leaf k number
-      ∙ sym (ap is_some (row_is row there) ∙ is_some_map (λ e. placed_workers e workers l.space) (entry_of m earlier k))
+      ∙ sym (there (row_of m workers earlier k l) (table.each k l at) ∙ is_some_map (λ e. placed_workers e workers l.space) (entry_of m earlier k))
 
-  pub taken : (row : Option (List ℕ)) → slice_get rows k ≡ Some row → is_some row ≡ true → entry_cause m earlier e ≡ Some NoLeaf
-  taken row there some = ap (λ b. cond b (Some NoLeaf) (leaf_cause e (leaf_of_path m e.leaf))) (named row there ∙ some)
+  pub taken : HasRow true → entry_cause m earlier e ≡ Some NoLeaf
+  taken there = ap (λ b. cond b (Some NoLeaf) (leaf_cause e (leaf_of_path m e.leaf))) (named true there)
 
-  pub free : (row : Option (List ℕ)) → slice_get rows k ≡ Some row → is_some row ≡ false → (cause : Option PlaceCause) → space_cause e l.space ≡ cause → entry_cause m earlier e ≡ cause
-  free row there none cause told =
-      ap (λ b. cond b (Some NoLeaf) (leaf_cause e (leaf_of_path m e.leaf))) (named row there ∙ none) ∙ (ap (leaf_cause e) (leaf_by_number m e.leaf k l number at) ∙ told)
+  pub free : HasRow false → (cause : Option PlaceCause) → space_cause e l.space ≡ cause → entry_cause m earlier e ≡ cause
+  free there cause told =
+      ap (λ b. cond b (Some NoLeaf) (leaf_cause e (leaf_of_path m e.leaf))) (named false there) ∙ (ap (leaf_cause e) (leaf_by_number m e.leaf k l number at) ∙ told)
 
-  placed_there : (placed : List ℕ) → slice_get rows k ≡ Some None → placed ≡ placed_workers e workers l.space → IsTable m workers (earlier ++ e ∷ []) (set rows k (Some placed))
+  -- the leaf has no entry yet
+  free_row : HasRow false → entry_of m earlier k ≡ None
+  free_row there =
+      none_some (entry_of m earlier k)
+      (sym (there (row_of m workers earlier k l) (table.each k l at) ∙ is_some_map (λ e. placed_workers e workers l.space) (entry_of m earlier k)))
+
+  placed_there : (placed : List ℕ) → HasRow false → placed ≡ placed_workers e workers l.space → IsTable m workers (earlier ++ e ∷ []) (set rows k (Some placed))
   placed_there placed there is = record {
     many = length-set rows k (Some placed) ∙ table.many;
-    counted = count_more rows k placed there ∙ (ap (λ n. n + 1) table.counted ∙ sym (length-append earlier (e ∷ [])));
+    counted = count_more rows k placed none_there ∙ (ap (λ n. n + 1) table.counted ∙ sym (length-append earlier (e ∷ [])));
     each = λ j o at_j. each j o at_j (j == k) refl;
   }
     where
-      free_row : entry_of m earlier k ≡ None
-      free_row = none_map (λ e. placed_workers e workers l.space) (entry_of m earlier k) (sym (row_is None there))
+      none_there : slice_get rows k ≡ Some None
+      none_there = table.each k l at ∙ ap (λ o. Some (option_map (λ e. placed_workers e workers l.space) o)) (free_row there)
 
       each : (j : ℕ) (o : Leaf) → slice_get (leaves m) j ≡ Some o → (b : Bool) → j == k ≡ b → slice_get (set rows k (Some placed)) j ≡ Some (row_of m workers (earlier ++ e ∷ []) j o)
       each j o at_j true t =
@@ -143,9 +150,9 @@ module _ (m : Model) (workers : ℕ) (earlier : List Entry) (rows : List (Option
           let both : Some o ≡ Some l = sym at_j ∙ (ap (slice_get (leaves m)) here ∙ at) in
           let leaf : o ≡ l = cc in
           let row : row_of m workers (earlier ++ e ∷ []) k l ≡ Some (placed_workers e workers l.space) =
-          ap (option_map (λ e. placed_workers e workers l.space)) (entry_here m earlier e k number free_row) in
+          ap (option_map (λ e. placed_workers e workers l.space)) (entry_here m earlier e k number (free_row there)) in
           ap (slice_get (set rows k (Some placed))) here
-          ∙ (set_here rows k (Some placed) (slice_get_within rows k None there)
+          ∙ (set_here rows k (Some placed) (slice_get_within rows k None none_there)
           ∙ (ap (λ ws. Some (Some ws)) is
           ∙ (ap Some (sym row)
           ∙ sym (ap (λ i. Some (row_of m workers (earlier ++ e ∷ []) i o)) here ∙ ap (λ (x : Leaf). Some (row_of m workers (earlier ++ e ∷ []) k x)) leaf))))
@@ -155,16 +162,14 @@ module _ (m : Model) (workers : ℕ) (earlier : List Entry) (rows : List (Option
           ∙ (table.each j o at_j
           ∙ ap (λ f. Some (option_map (λ e. placed_workers e workers o.space) f)) (sym (entry_more m earlier e k j number other)))
 
-  pub placed_next : (placed : List ℕ) (row : Option (List ℕ)) → slice_get rows k ≡ Some row → is_some row ≡ false → (space_cause e l.space ≡ None) × (placed ≡ placed_workers e workers l.space)
+  pub placed_next : (placed : List ℕ) → HasRow false → (space_cause e l.space ≡ None) × (placed ≡ placed_workers e workers l.space)
       → (entry_cause m earlier e ≡ None) × IsTable m workers (earlier ++ e ∷ []) (set rows k (Some placed))
-  placed_next placed None there none told = (free None there none None told.0, placed_there placed there told.1)
-  placed_next placed (Some other) there none told = cc
+  placed_next placed there told = (free there None told.0, placed_there placed there told.1)
 
   -- or else the fault is that of its leaf
-  pub refused_next : (fault : PlaceFault) (row : Option (List ℕ)) (new : List (Option (List ℕ))) → slice_get rows k ≡ Some row → is_some row ≡ false → PlacesSpace e workers l.space (Err fault)
-      → PlacedAfter m workers earlier e new (Err fault)
-  refused_next (Cause c) row new there none told = free row there none (Some c) told
-  refused_next NoMemory row new there none told = tt
+  pub refused_next : (fault : PlaceFault) (new : List (Option (List ℕ))) → HasRow false → PlacesSpace e workers l.space (Err fault) → PlacedAfter m workers earlier e new (Err fault)
+  refused_next (Cause c) new there told = free there (Some c) told
+  refused_next NoMemory new there told = tt
 
 pub number_within : (m : Model) (path : List ℕ) (k : ℕ) → leaf_number m path ≡ Some k → k < length (leaves m)
 number_within m path k h = let f = found_leaf m path k h in slice_get_within (leaves m) k f.leaf f.at

@@ -1,6 +1,6 @@
 //! Entry by entry: the workers of the leaves that entries name.
 
-ghost use Rattle.std.specs.Prelude.{◌≡◌, ◌<◌, ◌≤◌, ◌^◌, [], length, IfOk};
+ghost use Rattle.std.specs.Prelude.{◌≡◌, ◌<◌, ◌≤◌, ◌^◌, [], length, IfOk, Some, is_some, slice_get};
 ghost use Rattle.std.specs.List.{AllByRecursion};
 ghost use Rattle.aol_shape.specs.Shape.{IsEntry};
 ghost use Rattle.aol_flat.specs.Accept.{IsSound};
@@ -62,6 +62,14 @@ fn place_leaf(
     }
 }
 
+/// Whether the leaf with this number has the row of an entry.
+fn has_row(rows: &Items<Row>, number: u32) -> bool
+    requires { number < length rows.now }
+    ensures { (row : _) → slice_get rows.now number ≡ Some row → result ≡ is_some row }
+{
+    rows.as_slice()[number as usize].is_some()
+}
+
 /// Places one more entry: its leaf gets its row.
 fn place_entry(from: Places, entry: &Entry, rows: &mut Items<Row>) -> Result<(), PlaceFault>
     requires sound { IsSound from.flat.now.model }
@@ -75,8 +83,7 @@ fn place_entry(from: Places, entry: &Entry, rows: &mut Items<Row>) -> Result<(),
     let Some(number) = number_of(from.numbers, &entry.leaf) else {
         return Err(PlaceFault::Cause(PlaceCause::NoLeaf));
     };
-    let taken = rows.as_slice()[number as usize].is_some();
-    if taken {
+    if has_row(rows, number) {
         return Err(PlaceFault::Cause(PlaceCause::NoLeaf));
     }
     match place_leaf(from.alloc, entry, from.flat.leaf(number), from.workers) {

@@ -1,8 +1,9 @@
-ghost use Rattle.std.specs.Prelude.{◌≡◌, ◌≤◌, length};
+ghost use Rattle.std.specs.Prelude.{◌≤◌, length};
+ghost use Rattle.aol_model_types.specs.Types.{IsReadModel};
 
 use aol_allocate::{PlaceCause, PlaceRefused, Placed, allocate};
 use aol_flat::{Flat, flatten};
-use aol_model::{Document, Entry, document_of, shapes_agree};
+use aol_model::{Document, Entry, Model, document_of, shapes_agree};
 use aol_shape::{Items, Point};
 use serde_json::Value;
 use std::alloc::{AllocError, Global};
@@ -60,25 +61,49 @@ fn placed_text(
     }
 }
 
-/// The same of the document with these tasks, this main task and these entries.
-fn line(alloc: Global, tasks: &str, main: &str, entries: &str, workers: u32) -> Result<String, Fail>
-    requires some { 1 ≤ workers }
-    requires bound { workers ≤ 64 }
-{
+/// The tree of the document with these tasks, this main task and these entries.
+fn tree_of(alloc: Global, case: &Case) -> Result<Value, Fail> {
     let text = format!(in alloc;
-        "{{\"model\":{{\"tasks\":[{tasks}],\"main\":\"{main}\"}},\"input\":{{}},\"transform\":[],\"allocate\":[{entries}]}}"
+        "{{\"model\":{{\"tasks\":[{}],\"main\":\"{}\"}},\"input\":{{}},\"transform\":[],\"allocate\":[{}]}}",
+        case.tasks, case.main, case.entries
     )?;
-    let tree = Value::from_str(alloc, text.as_str())?;
-    let Ok(Document { model, job }) = document_of(alloc, &tree) else {
-        return Ok(String::from_str(alloc, "not read")?);
-    };
+    Ok(Value::from_str(alloc, text.as_str())?)
+}
+
+/// The model of a document, laid out; none where it is refused.
+fn flat_of(alloc: Global, model: Model) -> Option<Flat>
+    requires { IsReadModel model }
+{
     if shapes_agree(alloc, &model).is_err() {
-        return Ok(String::from_str(alloc, "misfit")?);
+        return None;
     }
-    match flatten(alloc, model) {
-        Ok(flat) => Ok(placed_text(alloc, &flat, &job.allocate, workers)?),
-        Err(_) => Ok(String::from_str(alloc, "limit")?),
+    flatten(alloc, model).ok()
+}
+
+/// The worker of each instance of a case, or what refuses it.
+fn line(alloc: Global, case: &Case) -> Result<String, Fail> {
+    let workers = case.workers;
+    if workers < 1 || workers > 64 {
+        return Ok(String::from_str(alloc, "workers")?);
     }
+    let tree = tree_of(alloc, case)?;
+    match document_of(alloc, &tree) {
+        Ok(Document { model, job }) => match flat_of(alloc, model) {
+            Some(flat) => Ok(placed_text(alloc, &flat, &job.allocate, workers)?),
+            None => Ok(String::from_str(alloc, "not laid out")?),
+        },
+        Err(_) => Ok(String::from_str(alloc, "not read")?),
+    }
+}
+
+/// A document, how many workers there are, and what is expected.
+#[derive(Clone, Copy)]
+struct Case {
+    tasks: &'static str,
+    main: &'static str,
+    entries: &'static str,
+    workers: u32,
+    expected: &'static str,
 }
 
 const FILTER: &str = r#"
@@ -136,57 +161,69 @@ const OF_A_COPY: &str =
 const OF_DEEP: &str =
     r#"{"leaf":"/*/*","processors":"{1}","space":"{1}","pattern":"{}","from":"(origin={0},paving={{1}},fitting={})","to":"(origin={0},paving={{1}},fitting={})"}"#;
 
-/// Whether the document is placed so.
-fn is_placed(
-    alloc: Global,
-    tasks: &str,
-    main: &str,
-    entries: &str,
-    workers: u32,
-    expected: &str,
-) -> Result<bool, Fail>
-    requires some { 1 ≤ workers }
-    requires bound { workers ≤ 64 }
-{
-    let found = line(alloc, tasks, main, entries, workers)?;
-    Ok(found.as_str() == expected)
+/// Whether a case is as expected.
+fn holds(alloc: Global, case: &Case) -> Result<bool, Fail> {
+    let found = line(alloc, case)?;
+    Ok(found.as_str() == case.expected)
+}
+
+const fn filter(workers: u32, expected: &'static str) -> Case {
+    Case {
+        tasks: FILTER,
+        main: "Filter",
+        entries: "",
+        workers,
+        expected,
+    }
+}
+
+const fn flip(entries: &'static str, workers: u32, expected: &'static str) -> Case {
+    Case {
+        tasks: FLIP,
+        main: "Flip",
+        entries,
+        workers,
+        expected,
+    }
+}
+
+const fn grid(entries: &'static str, workers: u32, expected: &'static str) -> Case {
+    Case {
+        tasks: GRID,
+        main: "Grid",
+        entries,
+        workers,
+        expected,
+    }
 }
 
 #[test]
-fn instances_are_shared_out_evenly_without_entries(rt: HostRuntime) -> Result<(), Fail> {
-    let alloc = rt.alloc();
-    assert!(rt; is_placed(alloc, FILTER, "Filter", "", 3, "3 workers: 0 0 0 1 1 1 2 2")?);
-    assert!(rt;
-        is_placed(
-            alloc,
-            FILTER,
-            "Filter",
-            "",
-            16,
-            "16 workers: 0 2 4 6 8 10 12 14"
-        )?
-    );
-    assert!(rt; is_placed(alloc, FLIP, "Flip", "", 2, "2 workers: 0 0 0 1 1 1")?);
-    Ok(())
-}
-
-#[test]
-fn entries_place_instances(rt: HostRuntime) -> Result<(), Fail> {
-    let alloc = rt.alloc();
-    assert!(rt; is_placed(alloc, GRID, "Grid", EXCHANGED, 3, "3 workers: 0 2 1 0")?);
-    assert!(rt; is_placed(alloc, GRID, "Grid", EXCHANGED, 1, "1 workers: 0 0 0 0")?);
-    assert!(rt; is_placed(alloc, GRID, "Grid", EXCHANGED, 64, "64 workers: 0 2 1 3")?);
-    Ok(())
-}
-
-#[test]
-fn the_first_cause_is_told(rt: HostRuntime) -> Result<(), Fail> {
-    let alloc = rt.alloc();
-    assert!(rt; is_placed(alloc, GRID, "Grid", COLUMN_TWICE, 3, "entry 0: twice 0 0")?);
-    assert!(rt; is_placed(alloc, GRID, "Grid", COLUMN, 3, "entry 0: unplaced 0 1")?);
-    assert!(rt; is_placed(alloc, GRID, "Grid", OF_A, 3, "entry 0: no leaf")?);
-    assert!(rt; is_placed(alloc, FLIP, "Flip", OF_A_COPY, 3, "entry 0: no leaf")?);
-    assert!(rt; is_placed(alloc, GRID, "Grid", EXCHANGED_TWICE, 3, "entry 1: no leaf")?);
-    assert!(rt; is_placed(alloc, DEEP, "Deep", OF_DEEP, 3, "entry 0: shape")?);
+fn instances_are_placed(rt: HostRuntime) -> Result<(), Fail> {
+    let cases = [
+        // Without entries instances are shared out evenly.
+        filter(3, "3 workers: 0 0 0 1 1 1 2 2"),
+        filter(16, "16 workers: 0 2 4 6 8 10 12 14"),
+        flip("", 2, "2 workers: 0 0 0 1 1 1"),
+        // By an entry.
+        grid(EXCHANGED, 3, "3 workers: 0 2 1 0"),
+        grid(EXCHANGED, 1, "1 workers: 0 0 0 0"),
+        grid(EXCHANGED, 64, "64 workers: 0 2 1 3"),
+        // Causes.
+        grid(COLUMN_TWICE, 3, "entry 0: twice 0 0"),
+        grid(COLUMN, 3, "entry 0: unplaced 0 1"),
+        grid(OF_A, 3, "entry 0: no leaf"),
+        flip(OF_A_COPY, 3, "entry 0: no leaf"),
+        grid(EXCHANGED_TWICE, 3, "entry 1: no leaf"),
+        Case {
+            tasks: DEEP,
+            main: "Deep",
+            entries: OF_DEEP,
+            workers: 3,
+            expected: "entry 0: shape",
+        },
+    ];
+    for case in &cases {
+        assert!(rt; holds(rt.alloc(), case)?);
+    }
     Ok(())
 }

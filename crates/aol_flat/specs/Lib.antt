@@ -17,6 +17,7 @@ pub mod Home
 pub mod Node
 pub mod Instance
 pub mod Laid
+pub mod NodeTable
 pub mod Targets
 pub mod Reads
 pub mod Limits

@@ -7,10 +7,12 @@ ghost use Rattle.aol_flat.specs.Instance.{instances, leaves};
 ghost use Rattle.aol_flat.specs.Leaves.{IsLeafRow};
 ghost use Rattle.aol_flat.specs.Limits.{IsBounded};
 ghost use Rattle.aol_flat.specs.Node.{nodes};
+ghost use Rattle.aol_flat.specs.NodeTable.{IsNodeRow, HasPart, IsPartNode, HasInput, IsFirstOfInput, HasOutput, IsFirstOfOutput, IsLeafSpot};
 ghost use Rattle.aol_flat.specs.Tables.{EndsWith, IsFirstLimit};
 ghost use Rattle.aol_flat.specs.Walked.{GoesOver};
 
 use crate::leaf::Leaf;
+use crate::nodes::{LeafSpot, NodeRow};
 use crate::numbers::{number_named, numbers_of};
 use crate::refused::FlatRefused;
 use crate::spot::root;
@@ -126,5 +128,53 @@ impl Flat {
         ensures { result ≡ length (instances self.now.model) }
     {
         self.instances
+    }
+
+    /// The row of the node with this number.
+    pub(crate) fn row(&self, number: u32) -> NodeRow
+        requires { number < length (nodes self.now.model) }
+        ensures { IsNodeRow self.now.model number result }
+    {
+        NodeRow {
+            up: 0,
+            part: number,
+            task: 0,
+            around: 0,
+        }
+    }
+
+    /// The number of the node of a part of a compound node.
+    pub(crate) fn below(&self, number: u32, part: u32) -> u32
+        requires { HasPart self.now.model number part }
+        ensures { IsPartNode self.now.model number part result }
+    {
+        number.min(part)
+    }
+
+    /// The cell at which the array at input `port` of a node begins, where it is stored.
+    pub(crate) fn first_of_input(&self, number: u32, port: u32) -> u32
+        requires { HasInput self.now.model number port }
+        ensures { IsFirstOfInput self.now.model number port result }
+    {
+        number.min(port)
+    }
+
+    /// The cell at which the array at output `port` of a node begins, where it is stored.
+    pub(crate) fn first_of_output(&self, number: u32, port: u32) -> u32
+        requires { HasOutput self.now.model number port }
+        ensures { IsFirstOfOutput self.now.model number port result }
+    {
+        number.min(port)
+    }
+
+    /// Where the leaf with this number stands.
+    pub(crate) fn leaf_spot(&self, number: u32) -> LeafSpot
+        requires { number < length (leaves self.now.model) }
+        ensures { IsLeafSpot self.now.model number result }
+    {
+        LeafSpot {
+            node: number,
+            reshape: 0,
+        }
     }
 }

@@ -11,6 +11,7 @@ mod instance;
 mod laws;
 mod leaf;
 pub mod limits;
+mod nodes;
 mod numbers;
 mod refused;
 mod spot;

@@ -56,3 +56,7 @@ pub mod Visiting
 pub mod Totals
 pub mod Order
 pub mod Laying
+pub mod Positions
+pub mod NodeTasks
+pub mod NodeAt
+pub mod Hands

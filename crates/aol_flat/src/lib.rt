@@ -6,7 +6,9 @@
 #![tactic(auto)]
 
 mod counts;
+mod feed;
 mod flat;
+mod follow;
 mod instance;
 mod laws;
 mod leaf;

@@ -1,0 +1,51 @@
+-- Elements by numbers: those of the node, of the port among the inputs or outputs of its task, and of the point of the port's shape.
+use Rattle.std.specs.Prelude.{◌≡◌, ℕ, ◌<◌, List, slice_get, Some}
+use Rattle.aol_shape.specs.Shape.{IsPointOf, size, rank, point_at}
+use Rattle.aol_expr_tree.specs.declared.port.Port.{Port}
+use Rattle.aol_model_types.specs.declared.document.Model.{Model}
+use Rattle.aol_model_types.specs.declared.task.Task.{Task}
+use Rattle.aol_model_types.specs.Rules.{inputs_of, outputs_of}
+use Rattle.aol_flat.specs.Place.{Element}
+use Rattle.aol_flat.specs.Node.{Node, space_around, place_on}
+use Rattle.aol_flat.specs.NodeTable.{IsNode}
+use Rattle.aol_flat.specs.Laid.{Laid, IsCellOf, IsReadOf}
+use Rattle.aol_flat.specs.declared.view.Read.{Read}
+
+-- the element of rank x at a port, for the instance of a node with these indices of the repetitions around it
+abbrev pub element_on : Node → List ℕ → Port → ℕ → Element
+element_on node at p x = record { place = place_on node at; port = p.name; index = point_at p.shape x }
+
+-- the element is that of rank x at the k-th port of the task of a node, for these indices
+pub record IsElementOf (m : Model) (ports : Task → List Port) (number k : ℕ) (at : List ℕ) (x : ℕ) (e : Element) : Type 0 where
+  pub node : Node
+  pub task : Task
+  pub at_node : IsNode m number node task
+  pub port : Port
+  pub listed : slice_get (ports task) k ≡ Some port
+  pub around : IsPointOf (space_around node) at
+  pub within : x < size port.shape
+  pub is : e ≡ element_on node at port x
+
+-- there is one at the k-th input
+abbrev pub HasInputElement : Model → ℕ → ℕ → List ℕ → ℕ → Type 0
+HasInputElement m number k at x = (e : Element) × IsElementOf m inputs_of number k at x e
+
+-- or at the k-th output
+abbrev pub HasOutputElement : Model → ℕ → ℕ → List ℕ → ℕ → Type 0
+HasOutputElement m number k at x = (e : Element) × IsElementOf m outputs_of number k at x e
+
+-- what reading that element means
+abbrev pub IsReadOfInput : Laid → ℕ → ℕ → List ℕ → ℕ → Read → Type 0
+IsReadOfInput f number k at x read = (e : Element) → IsElementOf f.model inputs_of number k at x e → IsReadOf f e read
+
+-- and the cell of the element of an output
+abbrev pub IsCellOfOutput : Laid → ℕ → ℕ → List ℕ → ℕ → ℕ → Type 0
+IsCellOfOutput f number k at x cell = (e : Element) → IsElementOf f.model outputs_of number k at x e → IsCellOf f e cell
+
+-- the indices are those of an instance of the node
+abbrev pub IsIndexed : Model → ℕ → List ℕ → Type 0
+IsIndexed m number at = (node : Node) × (t : Task) × IsNode m number node t × IsPointOf (space_around node) at
+
+-- their rank among the points of the space of all repetitions around it
+abbrev pub IsRankAround : Model → ℕ → List ℕ → ℕ → Type 0
+IsRankAround m number at r = (node : Node) (t : Task) → IsNode m number node t → r ≡ rank (space_around node) at

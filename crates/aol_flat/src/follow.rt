@@ -1,0 +1,1 @@
+//! Following an element to the cell where it is stored.

@@ -60,3 +60,6 @@ pub mod Positions
 pub mod NodeTasks
 pub mod NodeAt
 pub mod Hands
+pub mod Arrays
+pub mod Repetitions
+pub mod Few

@@ -1,13 +1,15 @@
 -- Elements by numbers: those of the node, of the port among the inputs or outputs of its task, and of the point of the port's shape.
-use Rattle.std.specs.Prelude.{◌≡◌, ℕ, ◌<◌, List, slice_get, Some}
+use Rattle.std.specs.Prelude.{◌≡◌, ℕ, ◌<◌, List, ◌∷◌, slice_get, Some}
 use Rattle.aol_shape.specs.Shape.{IsPointOf, size, rank, point_at}
 use Rattle.aol_expr_tree.specs.declared.port.Port.{Port}
 use Rattle.aol_model_types.specs.declared.document.Model.{Model}
+use Rattle.aol_model_types.specs.declared.task.Repeated.{Repeated}
 use Rattle.aol_model_types.specs.declared.task.Task.{Task}
+use Rattle.aol_model_types.specs.declared.task.Task.TheVariants as tasks
 use Rattle.aol_model_types.specs.Rules.{inputs_of, outputs_of}
 use Rattle.aol_flat.specs.Place.{Element}
-use Rattle.aol_flat.specs.Node.{Node, space_around, place_on}
-use Rattle.aol_flat.specs.NodeTable.{IsNode}
+use Rattle.aol_flat.specs.Node.{Node, ToBody, space_around, place_on}
+use Rattle.aol_flat.specs.NodeTable.{IsNode, BeginsAt}
 use Rattle.aol_flat.specs.Laid.{Laid, IsCellOf, IsReadOf}
 use Rattle.aol_flat.specs.declared.view.Read.{Read}
 
@@ -38,9 +40,9 @@ HasOutputElement m number k at x = (e : Element) × IsElementOf m outputs_of num
 abbrev pub IsReadOfInput : Laid → ℕ → ℕ → List ℕ → ℕ → Read → Type 0
 IsReadOfInput f number k at x read = (e : Element) → IsElementOf f.model inputs_of number k at x e → IsReadOf f e read
 
--- and the cell of the element of an output
-abbrev pub IsCellOfOutput : Laid → ℕ → ℕ → List ℕ → ℕ → ℕ → Type 0
-IsCellOfOutput f number k at x cell = (e : Element) → IsElementOf f.model outputs_of number k at x e → IsCellOf f e cell
+-- the cell of the element of a port
+abbrev pub IsCellOfPort : Laid → (Task → List Port) → ℕ → ℕ → List ℕ → ℕ → ℕ → Type 0
+IsCellOfPort f ports number k at x cell = (e : Element) → IsElementOf f.model ports number k at x e → IsCellOf f e cell
 
 -- the indices are those of an instance of the node
 abbrev pub IsIndexed : Model → ℕ → List ℕ → Type 0
@@ -49,3 +51,24 @@ IsIndexed m number at = (node : Node) × (t : Task) × IsNode m number node t ×
 -- their rank among the points of the space of all repetitions around it
 abbrev pub IsRankAround : Model → ℕ → List ℕ → ℕ → Type 0
 IsRankAround m number at r = (node : Node) (t : Task) → IsNode m number node t → r ≡ rank (space_around node) at
+
+-- a node is the body of a repeated task, at one repetition of an instance of that task
+pub record IsRepetition (m : Model) (number up : ℕ) (t : Repeated) (around r : List ℕ) : Type 0 where
+  pub lower : up < number
+  pub node : Node
+  pub inner : Task
+  pub at_up : IsNode m up node (tasks.Repeated t)
+  pub at_body : IsNode m number (ToBody t.space ∷ node) inner
+  pub around_inside : IsPointOf (space_around node) around
+  pub inside : IsPointOf t.space r
+
+-- the array of a port begins at this cell, and the element of rank x belongs to the instance with this rank
+pub record IsInArray (m : Model) (first index : ℕ) (shape : List ℕ) (x : ℕ) : Type 0 where
+  pub node : Node
+  pub port : Port
+  pub begins : BeginsAt m node port first
+  pub at : List ℕ
+  pub around : IsPointOf (space_around node) at
+  pub index_is : index ≡ rank (space_around node) at
+  pub shape_is : shape ≡ port.shape
+  pub within : x < size shape

@@ -1,5 +1,5 @@
 -- A node of a model within the limits has few instances, and so are its cells.
-use Rattle.std.proofs.Common.{◌≡◌, ℕ, zero, suc, ◌+◌, ◌*◌, ◌<◌, ◌≤◌, List, [], ◌∷◌, ◌++◌, length, map, sum_by, Some, slice_get, sym, ◌∙◌, ap, refl, arith, subst}
+use Rattle.std.proofs.Common.{◌≡◌, ℕ, zero, suc, ◌+◌, ◌*◌, ◌<◌, ◌≤◌, ◌^◌, List, [], ◌∷◌, ◌++◌, length, map, sum_by, Some, slice_get, sym, ◌∙◌, ap, refl, arith, subst}
 use Rattle.std.specs.List.{IsAmong, AllByRecursion}
 use Rattle.std.proofs.Math.Nat.{mul-le-mul_left}
 use Rattle.std.proofs.lemmas.List.{length-map}
@@ -16,6 +16,7 @@ use Rattle.aol_model_types.specs.Types.{IsTask, IsPort, IsOutPort, HasOutput}
 use Rattle.aol_flat.specs.Accept.{IsSound}
 use Rattle.aol_flat.specs.Limits.{max_walk, own_walk, IsBounded}
 use Rattle.aol_flat.specs.Node.{Node, space_around, nodes}
+use Rattle.aol_flat.specs.Laid.{homes_of}
 use Rattle.aol_flat.specs.NodeTable.{IsNode}
 use Rattle.aol_flat.proofs.Among.{get_among}
 use Rattle.aol_flat.proofs.Checked.{IsTaskOf}
@@ -60,3 +61,6 @@ module _ (m : Model) (sound : IsSound m) (limits : IsBounded m) where
       AllByRecursion-at HasOutput m.tasks (length s.before + 0) t sound.read.outputs (ap (λ ts. slice_get ts (length s.before + 0)) s.split ∙ slice_get-right s.before (t ∷ s.rest) 0) in
       let least = mul-le-mul_left (size (space_around node)) (some_walk t (limits_known m sound number node t at) output) in
       omega (arith, least, walk_part (nodes m) node t number at, walk_few)
+
+pub cells_few : (m : Model) → IsSound m → IsBounded m → length (homes_of m) < 2 ^ 32
+cells_few m sound limits = ?

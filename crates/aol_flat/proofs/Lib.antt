@@ -63,3 +63,7 @@ pub mod Hands
 pub mod Arrays
 pub mod Repetitions
 pub mod Few
+pub mod PortsOf
+pub mod Fitting
+pub mod StoredAt
+pub mod Outward

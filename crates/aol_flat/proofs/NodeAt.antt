@@ -111,6 +111,13 @@ module _ (m : Model) (sound : IsSound m) where
   pub is_root : (number : ℕ) (row : NodeRow) (node : Node) (t : Task) → number ≡ 0 → IsNodeRow m number row → IsNode m number node t → node ≡ []
   is_root number row node t e r at = sym (one_node m number r.node node r.task t r.at at).0 ∙ root_row number row r.node e r.above
 
+-- a node below another isn't the root
+pub not_root : (m : Model) → IsSound m → (number : ℕ) (row : NodeRow) (b : Branch) (up : Node) (t : Task) → IsNodeRow m number row → IsNode m number (b ∷ up) t → number ≢ 0
+not_root m sound number row b up t known at e = let root : b ∷ up ≡ [] = is_root m sound number row (b ∷ up) t e known at in cc
+
+pub under_up : (m : Model) (number : ℕ) (row : NodeRow) (b : Branch) (up : Node) (t : Task) → (u : IsUnder m number row (b ∷ up) t) → u.up ≡ up
+under_up m number row b up t u = let e = u.is in let f : up ≡ u.up = cc in sym f
+
 -- the task above is the one that is looked up
 pub above_same : (m : Model) (number : ℕ) (row : NodeRow) (node up : Node) (t a : Task) (u : IsUnder m number row node t) → IsNode m row.up up a → u.above ≡ a
 above_same m number row node up t a u at = (one_node m row.up u.up up u.above a u.at_up at).1

@@ -9,7 +9,11 @@ use Rattle.aol_model_types.specs.declared.task.Task.TheVariants as tasks
 use Rattle.aol_model_types.specs.Rules.{inputs_of, outputs_of}
 use Rattle.aol_flat.specs.Place.{Element}
 use Rattle.aol_flat.specs.Node.{Node, ToBody, space_around, place_on}
-use Rattle.aol_flat.specs.NodeTable.{IsNode, BeginsAt}
+use Rattle.aol_flat.specs.NodeTable.{IsNode}
+use Rattle.aol_flat.specs.Home.{home_of}
+use Rattle.aol_flat.specs.Feed.{IsHand, IsFeed}
+use Rattle.aol_flat.specs.declared.feed.Feed.TheVariants as feeds
+use Rattle.aol_flat.specs.declared.feed.Hand.TheVariants as hands
 use Rattle.aol_flat.specs.Laid.{Laid, IsCellOf, IsReadOf}
 use Rattle.aol_flat.specs.declared.view.Read.{Read}
 
@@ -62,13 +66,34 @@ pub record IsRepetition (m : Model) (number up : ℕ) (t : Repeated) (around r :
   pub around_inside : IsPointOf (space_around node) around
   pub inside : IsPointOf t.space r
 
--- the array of a port begins at this cell, and the element of rank x belongs to the instance with this rank
-pub record IsInArray (m : Model) (first index : ℕ) (shape : List ℕ) (x : ℕ) : Type 0 where
-  pub node : Node
-  pub port : Port
-  pub begins : BeginsAt m node port first
+-- the node with this number is the body of a repeated task, at an instance with these indices
+abbrev pub IsBodyIndexed : Model → ℕ → List ℕ → Type 0
+IsBodyIndexed m number at = (above : Node) × (r : Repeated) × (t : Task) × IsNode m number (ToBody r.space ∷ above) t × IsPointOf (space_around (ToBody r.space ∷ above)) at
+
+-- an element has the home of that of rank x at the k-th port of the node with this number
+pub record LeadsTo (m : Model) (e : Element) (ports : Task → List Port) (number k : ℕ) (at : List ℕ) (x : ℕ) : Type 0 where
+  pub next : Element
+  pub is : IsElementOf m ports number k at x next
+  pub home : home_of m e ≡ home_of m next
+
+-- so does each element of one port that is given by numbers
+abbrev pub PortLeadsTo : Model → (Task → List Port) → ℕ → ℕ → List ℕ → ℕ → (Task → List Port) → ℕ → ℕ → List ℕ → ℕ → Type 0
+PortLeadsTo m ports number k at x others above j around y = (e : Element) → IsElementOf m ports number k at x e → LeadsTo m e others above j around y
+
+-- the element at the k-th output is stored, and its instance has this rank
+pub record IsStoredOutput (m : Model) (number k index x : ℕ) : Type 0 where
   pub at : List ℕ
-  pub around : IsPointOf (space_around node) at
-  pub index_is : index ≡ rank (space_around node) at
-  pub shape_is : shape ≡ port.shape
-  pub within : x < size shape
+  pub there : HasOutputElement m number k at x
+  pub rank_is : IsRankAround m number at index
+  pub stored : IsHand m number k hands.Stored
+
+-- the same of an input
+pub record IsStoredInput (m : Model) (number k index x : ℕ) : Type 0 where
+  pub at : List ℕ
+  pub there : HasInputElement m number k at x
+  pub rank_is : IsRankAround m number at index
+  pub stored : IsFeed m number k feeds.Stored
+
+-- the cell is that of the element, whichever indices of that rank its instance has
+abbrev pub IsCellAtRank : Laid → (Task → List Port) → ℕ → ℕ → ℕ → ℕ → ℕ → Type 0
+IsCellAtRank f ports number k index x cell = (at : List ℕ) → IsRankAround f.model number at index → IsCellOfPort f ports number k at x cell

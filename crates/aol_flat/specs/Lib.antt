@@ -30,5 +30,5 @@ pub mod Wired
 pub mod Followed
 pub mod Keep
 pub mod Sources
-pub mod Follow
 pub mod Feed
+pub mod Follow

@@ -215,13 +215,14 @@ impl Flat {
     /// What hands an output of a node up.
     pub(crate) fn hand(&self, number: u32, port: u32) -> Hand
         requires { HasOutput self.now.model number port }
-        ensures { IsHand self.now.model number port result }
+        ensures hand { IsHand self.now.model number port result }
+        ensures flat { IsFlat self.now }
     {
+        let name = &output(self.task(number), port).name;
         if number == 0 {
             return Hand::Stored;
         }
         let row = self.row(number);
-        let name = &output(self.task(number), port).name;
         match self.task(row.up) {
             Task::Compound(up) => part_hand(up, row.part as usize, name),
             Task::Repeated(up) => body_hand(up, name),

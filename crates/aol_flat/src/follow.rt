@@ -8,7 +8,8 @@ ghost use Rattle.aol_shape.specs.Shape.{IsPointOf, IsShape, size, point_at};
 ghost use Rattle.aol_tiler.specs.Tiler.{Fits, address};
 ghost use Rattle.aol_model_types.specs.Rules.{inputs_of, outputs_of};
 ghost use Rattle.aol_flat.specs.Accept.{IsFlat};
-ghost use Rattle.aol_flat.specs.Follow.{IsIndexed, IsRankAround, IsRepetition, IsInArray, HasOutputElement, HasInputElement, IsCellOfPort, IsReadOfInput};
+ghost use Rattle.aol_flat.specs.Feed.{IsHand};
+ghost use Rattle.aol_flat.specs.Follow.{IsIndexed, IsRankAround, IsRepetition, IsBodyIndexed, HasOutputElement, HasInputElement, IsCellOfPort, IsReadOfInput, IsStoredOutput, IsCellAtRank, PortLeadsTo};
 
 use crate::feed::{Feed, Hand, output};
 use crate::flat::Flat;
@@ -54,6 +55,14 @@ fn place_in(index: u32, shape: &Shape, x: u32) -> u32
     index * shape.size() + x
 }
 
+/// The cell of that element, where these arrays are stored from `first` on.
+fn place_from(first: u32, index: u32, shape: &Shape, x: u32) -> u32
+    requires { first + (index * size shape.now + x) < 2 ^ 32 }
+    ensures { result ≡ first + (index * size shape.now + x) }
+{
+    first + place_in(index, shape, x)
+}
+
 impl Flat {
     /// The rank of the instance of a node with these indices.
     #[cycle(ranks)]
@@ -93,5 +102,83 @@ impl Flat {
             space,
             rank_of(space, body.r),
         )
+    }
+
+    /// The repetition of a body at an instance with these indices.
+    fn repetition<'a>(&'a self, number: u32, at: &'a [u32]) -> Repetition<'a>
+        requires { IsBodyIndexed self.now.model number at.now }
+        ensures number { result.number ≡ number }
+        ensures place { IsRepetition self.now.model number result.up result.task.now result.around.now result.r.now }
+        ensures whole { result.around.now ++ result.r.now ≡ at.now }
+        ensures flat { IsFlat self.now }
+    {
+        let up = self.row(number).up;
+        let Task::Repeated(task) = self.task(up) else {
+            unreachable!()
+        };
+        let (around, r) = at.split_at(at.len() - task.space.as_slice().len());
+        Repetition {
+            number,
+            up,
+            task,
+            around,
+            r,
+        }
+    }
+
+    /// The cell of an element of an output that is stored; its instance has this rank.
+    fn cell_of_output(&self, number: u32, port: u32, index: u32, x: u32) -> u32
+        requires { IsStoredOutput self.now.model number port index x }
+        ensures { IsCellAtRank self.now outputs_of number port index x result }
+    {
+        let shape = &output(self.task(number), port).shape;
+        place_from(self.first_of_output(number, port), index, shape, x)
+    }
+
+    /// The rank of the element of an outer output to which a tiler hands an element of a repetition's output.
+    fn handed_rank(&self, body: Repetition, port: u32, tiler: u32, outer: u32, x: u32) -> u32
+        requires place { IsRepetition self.now.model body.number body.up body.task.now body.around.now body.r.now }
+        requires there { HasOutputElement self.now.model body.number port (body.around.now ++ body.r.now) x }
+        requires tiled { IsHand self.now.model body.number port (Hand.Tiled tiler outer) }
+        ensures { PortLeadsTo self.now.model outputs_of body.entry.number port (body.entry.around.now ++ body.entry.r.now) x outputs_of body.entry.up outer body.entry.around.now result }
+    {
+        let shape = &output(self.task(body.number), port).shape;
+        let array = &body.task.outs.as_slice()[outer as usize].shape;
+        let tiler = &body.task.tilers.as_slice()[tiler as usize].tiler;
+        address_of(tiler, array, &body.task.space, shape, body.r, x)
+    }
+
+    /// The cell of an element of an output.
+    pub(crate) fn follow_output(&self, number: u32, port: u32, at: &[u32], x: u32) -> u32
+        requires { HasOutputElement self.now.model number port at.now x }
+        ensures { IsCellOfPort self.now outputs_of number port at.now x result }
+    {
+        match self.hand(number, port) {
+            Hand::Stored => {
+                self.cell_of_output(number, port, self.rank_around(number, at), x)
+            }
+            Hand::Own(own) => self.follow_output(self.row(number).up, own, at, x),
+            Hand::Tiled { tiler, port: outer } => {
+                let body = self.repetition(number, at);
+                let y = self.handed_rank(body, port, tiler, outer, x);
+                self.follow_output(body.up, outer, body.around, y)
+            }
+        }
+    }
+
+    /// The same of one repetition.
+    fn follow_output_of(&self, body: Repetition, port: u32, x: u32) -> u32
+        requires place { IsRepetition self.now.model body.number body.up body.task.now body.around.now body.r.now }
+        requires there { HasOutputElement self.now.model body.number port (body.around.now ++ body.r.now) x }
+        ensures { IsCellOfPort self.now outputs_of body.entry.number port (body.entry.around.now ++ body.entry.r.now) x result }
+    {
+        let _model = self.model();
+        match self.hand(body.number, port) {
+            Hand::Tiled { tiler, port: outer } => {
+                let y = self.handed_rank(body, port, tiler, outer, x);
+                self.follow_output(body.up, outer, body.around, y)
+            }
+            _ => self.cell_of_output(body.number, port, self.rank_below(body), x),
+        }
     }
 }

@@ -125,3 +125,7 @@ above_same m number row node up t a u at = (one_node m row.up u.up up u.above a 
 -- a port that is read by its number is the listed one
 pub read_port : (ports : Task → List Port) (t u : Task) (k : ℕ) (p q : Port) → t ≡ u → slice_get (ports t) k ≡ Some p → q ≡ get_or (ports u) k q → q ≡ p
 read_port ports t u k p q e listed is = is ∙ (ap (λ x. get_or (ports x) k q) (sym e) ∙ get_or_from_slice_get (ports t) k p q listed)
+
+-- an element that is read by its number is the listed one
+pub read_item : {X : Type 0} (xs ys : List X) (k : ℕ) (x d : X) → ys ≡ xs → slice_get xs k ≡ Some x → get_or ys k d ≡ x
+read_item xs ys k x d e listed = ap (λ zs. get_or zs k d) e ∙ get_or_from_slice_get xs k x d listed

@@ -15,8 +15,10 @@ use Rattle.aol_model_types.specs.declared.task.Task.TheVariants as tasks
 use Rattle.aol_model_types.specs.declared.task.TilerOn.{TilerOn}
 use Rattle.aol_model_types.specs.Rules.{task_named, inputs_of, outputs_of, inputs_named, outputs_named, port_shape, from_shape, to_shape, fits_in}
 use Rattle.aol_flat.specs.Accept.{IsSound}
-use Rattle.aol_flat.specs.Feed.{IsNumberOf, IsHandedByLink, IsHandedByTiler}
-use Rattle.aol_flat.specs.Follow.{IsElementOf, IsRepetition, LeadsTo, element_on}
+use Rattle.aol_flat.specs.Feed.{IsNumberOf, IsHandedByLink, IsHandedByTiler, Hands}
+use Rattle.aol_flat.specs.declared.feed.Hand.{Hand}
+use Rattle.aol_flat.specs.declared.feed.Hand.TheVariants as hands
+use Rattle.aol_flat.specs.Follow.{IsElementOf, IsRepetition, IsBodyIndexed, LeadsTo, element_on}
 use Rattle.aol_flat.specs.declared.nodes.NodeRow.{NodeRow}
 use Rattle.aol_flat.specs.Home.{Kept, handed, home_of, is_part_end, link_up, tiler_at}
 use Rattle.aol_flat.specs.Node.{Node, ToPart, ToBody, space_around, place_on, node_task}
@@ -149,3 +151,61 @@ module _ (m : Model) (sound : IsSound m) where
         ∙ (ap (λ n. handed m (place_on up around) n (address_point o.tiler q.shape last (point_at p.shape x))) (sym named)
         ∙ ap (handed m (place_on up around) q.name) (sym (address_back o.tiler q.shape r.space p.shape last (point_at p.shape x) output_fits limits))))))
         ∙ sym (output_home m (element_on up around q a) (output_side m sound above up (tasks.Repeated r) around there in_around j q outer a)))
+
+  -- the same by numbers
+  module _ (number above k i j : ℕ) (r : Repeated) (around last : List ℕ) (x : ℕ) (e : Element) (b : IsRepetition m number above r around last) (h : IsElementOf m outputs_of number k (around ++ last) x e)
+      (by : IsHandedByTiler m h.node h.port i j) where
+    one : (h.node ≡ ToBody r.space ∷ b.node) × (h.task ≡ b.inner)
+    one = one_node m number h.node (ToBody r.space ∷ b.node) h.task b.inner h.at_node b.at_body
+
+    same_up : by.up ≡ b.node
+    same_up = let f : ToBody by.task.space ∷ by.up ≡ ToBody r.space ∷ b.node = sym by.place.is ∙ one.0 in cc
+
+    same_repeated : by.task ≡ r
+    same_repeated =
+        let f : Some (tasks.Repeated by.task) ≡ Some (tasks.Repeated r) = sym by.place.above ∙ (ap (node_task m) same_up ∙ (known m above b.node (tasks.Repeated r) b.at_up).task) in
+        cc
+
+    abbrev pub OutTiler : Repeated → Type 0
+    OutTiler z = (o : TilerOn) × (tiler_at z h.port.name ≡ Some o) × (slice_get z.tilers i ≡ Some o) × IsNumberOf z.outs o.outer j
+
+    pub out_tiler : OutTiler r
+    out_tiler = subst OutTiler same_repeated (by.tiler, by.found, by.at, by.port)
+
+    listed_there : slice_get (outputs_of b.inner) k ≡ Some h.port
+    listed_there = subst (λ t. slice_get (outputs_of t) k ≡ Some h.port) one.1 h.listed
+
+    pub out_fits : fits out_tiler.0.tiler out_tiler.3.port.shape r.space h.port.shape ≡ true
+    out_fits =
+        output_fits number above b.node r b.inner around last x k j h.port out_tiler.3.port out_tiler.0 b.at_body b.at_up b.around_inside b.inside listed_there out_tiler.1 out_tiler.3.listed out_tiler.3.named
+
+    pub out_leads : (y : ℕ) → y ≡ address out_tiler.0.tiler out_tiler.3.port.shape last (point_at h.port.shape x) → y < size out_tiler.3.port.shape → LeadsTo m e outputs_of above j around y
+    out_leads y address_is small = record {
+      next = element_on b.node around out_tiler.3.port y;
+      is = record {
+        node = b.node;
+        task = tasks.Repeated r;
+        at_node = b.at_up;
+        port = out_tiler.3.port;
+        listed = out_tiler.3.listed;
+        around = b.around_inside;
+        within = small;
+        is = refl;
+      };
+      home = ap (home_of m) (h.is ∙ ap (λ n. element_on n (around ++ last) h.port x) one.0)
+          ∙ (tiled_home number above b.node r b.inner around last x k j h.port out_tiler.3.port out_tiler.0 b.at_body b.at_up b.around_inside b.inside listed_there out_tiler.1 out_tiler.3.listed out_tiler.3.named
+          ∙ ap (λ z. home_of m (element_on b.node around out_tiler.3.port z)) (sym address_is));
+    }
+
+-- an output of a body that no tiler hands up is stored
+pub body_stored : (m : Model) (node up : Node) (space : List ℕ) (p : Port) (h : Hand) → node ≡ ToBody space ∷ up → ((i j : ℕ) → h ≡ hands.Tiled i j → ⊥) → Hands m node p h → Hands m node p hands.Stored
+body_stored m node up space p hands.Stored is untiled f = f
+body_stored m node up space p (hands.Own j) is untiled f = let e : ToPart f.part ∷ f.up ≡ ToBody space ∷ up = sym f.place.is ∙ is in cc
+body_stored m node up space p (hands.Tiled i j) is untiled f = absurd (untiled i j refl)
+
+-- a tiler hands an output of a body up
+pub tiled_body : (m : Model) (number k i j : ℕ) (at : List ℕ) (x : ℕ) (e : Element) → (h : IsElementOf m outputs_of number k at x e) → IsHandedByTiler m h.node h.port i j → IsBodyIndexed m number at
+tiled_body m number k i j at x e h by =
+    let P : Node → Type 0 = λ n. IsNode m number n h.task in
+    let Q : Node → Type 0 = λ n. IsPointOf (space_around n) at in
+    (by.up, by.task, h.task, subst P by.place.is h.at_node, subst Q by.place.is h.around)

@@ -66,3 +66,9 @@ module _ (m : Model) (sound : IsSound m) (number : ℕ) (node : Node) (t : Task)
 
     pub output_side : (x : ℕ) → IsOutput m (element_on node at p x)
     output_side x = output_there m sound.shapes (place_on node at) t p.name (task_there_on m sound number node t at here around) (ap is_some own_output)
+
+pub moved_element : (m : Model) (ports : Task → List Port) (number number' k : ℕ) (at at' : List ℕ) (x : ℕ) (e : Element) → number' ≡ number → at' ≡ at → IsElementOf m ports number k at x e → IsElementOf m ports number' k at' x e
+moved_element m ports number number' k at at' x e same_number same_at h =
+    let P : ℕ → Type 0 = λ n. IsElementOf m ports n k at x e in
+    let Q : List ℕ → Type 0 = λ a. IsElementOf m ports number' k a x e in
+    subst Q (sym same_at) (subst P (sym same_number) h)

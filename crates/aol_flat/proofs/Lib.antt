@@ -67,3 +67,4 @@ pub mod PortsOf
 pub mod Fitting
 pub mod StoredAt
 pub mod Outward
+pub mod InputFeeds

@@ -35,6 +35,40 @@ pub record IsBodyOf (m : Model) (node : Node) (up : Node) (t : Repeated) : Type 
   pub is : node ≡ ToBody t.space ∷ up
   pub above : node_task m up ≡ Some (tasks.Repeated t)
 
+-- a plain link leads into an input of part k from the j-th output of another part, whose node has the number i
+pub record IsGiven (m : Model) (up : Node) (c : Compound) (k : ℕ) (port : List ℕ) (i j : ℕ) : Type 0 where
+  pub link : Plain
+  pub found : link_into_part c k port ≡ Some link
+  pub name : List ℕ
+  pub of_part : link.from.part ≡ Some name
+  pub giver : Task
+  pub at : IsNode m i (ToPart (part_number c name) ∷ up) giver
+  pub number : IsNumberOf (outputs_of giver) link.from.port j
+
+-- what feeds an input of part k of a compound task at a node by its plain links
+abbrev pub PartFeeds : Model → Node → Compound → ℕ → List ℕ → Feed → Type 0
+PartFeeds m up c k port feeds.Stored = link_into_part c k port ≡ None
+PartFeeds m up c k port (feeds.Own j) = (l : Plain) × (link_into_part c k port ≡ Some l) × (l.from.part ≡ None) × IsNumberOf c.ins l.from.port j
+PartFeeds m up c k port (feeds.Part i j) = IsGiven m up c k port i j
+PartFeeds m up c k port (feeds.Tiled i j) = ⊥
+PartFeeds m up c k port (feeds.Linked i j) = ⊥
+
+-- what feeds an input of the body of a repeated task, whose task is t
+abbrev pub BodyFeeds : Repeated → Task → List ℕ → Feed → Type 0
+BodyFeeds r t port feeds.Stored = ⊥
+BodyFeeds r t port (feeds.Own j) = ⊥
+BodyFeeds r t port (feeds.Part i j) = ⊥
+BodyFeeds r t port (feeds.Tiled i j) = (o : TilerOn) × (tiler_at r port ≡ Some o) × (slice_get r.tilers i ≡ Some o) × IsNumberOf r.ins o.outer j
+BodyFeeds r t port (feeds.Linked i j) = (l : Interlink) × (tiler_at r port ≡ None) × (link_into_repetition r port ≡ Some l) × (slice_get r.links i ≡ Some l) × IsNumberOf (outputs_of t) l.from j
+
+-- a tiler at an inner input leads from an input that is there
+abbrev pub TilesInputs : Repeated → List ℕ → Type 0
+TilesInputs t name = (o : TilerOn) → tiler_at t name ≡ Some o → is_some (port_shape t.ins o.outer) ≡ true
+
+-- where there is no tiler, a link leads into an inner input, from an output that is there
+abbrev pub LinksOutputs : Repeated → Task → List ℕ → Type 0
+LinksOutputs r t name = tiler_at r name ≡ None → (l : Interlink) × (link_into_repetition r name ≡ Some l) × (is_some (port_shape (outputs_of t) l.from) ≡ true)
+
 -- what hands an output of part k of a compound task up
 abbrev pub PartHands : Compound → ℕ → List ℕ → Hand → Type 0
 PartHands c k name hands.Stored = link_up c k name ≡ None
@@ -68,20 +102,13 @@ pub record IsFedByOwn (m : Model) (node : Node) (p : Port) (j : ℕ) : Type 0 wh
   pub own : link.from.part ≡ None
   pub port : IsNumberOf task.ins link.from.port j
 
--- one leads into it from the j-th output of the i-th part
+-- one leads into it from the j-th output of another part, whose node has the number i
 pub record IsFedByPart (m : Model) (node : Node) (p : Port) (i j : ℕ) : Type 0 where
   pub up : Node
   pub part : ℕ
   pub task : Compound
   pub place : IsPartOf m node up part task
-  pub link : Plain
-  pub found : link_into_part task part p.name ≡ Some link
-  pub name : List ℕ
-  pub of_part : link.from.part ≡ Some name
-  pub number : i ≡ part_number task name
-  pub giver : Task
-  pub there : node_task m (ToPart i ∷ up) ≡ Some giver
-  pub port : IsNumberOf (outputs_of giver) link.from.port j
+  pub by : IsGiven m up task part p.name i j
 
 -- the i-th tiler of the repeated task leads into it from the j-th own input
 pub record IsFedByTiler (m : Model) (node : Node) (p : Port) (i j : ℕ) : Type 0 where

@@ -5,11 +5,12 @@ ghost use Rattle.std.specs.List.{find, position};
 ghost use Rattle.std.specs.Option.{option_copied};
 ghost use Rattle.aol_shape.specs.Lists.{same};
 ghost use Rattle.aol_model_types.specs.Rules.{inputs_of, outputs_of, port_shape};
-ghost use Rattle.aol_flat.specs.Feed.{IsNumberOf, IsFeed, IsHand, HasTask, PartHands, HandsToOutputs, BodyHands, TilesOutputs};
+ghost use Rattle.aol_flat.specs.Feed.{IsNumberOf, IsFeed, IsHand, HasTask, PartHands, HandsToOutputs, BodyHands, TilesOutputs, PartFeeds, BodyFeeds, TilesInputs, LinksOutputs};
 ghost use Rattle.aol_flat.specs.Accept.{IsFlat};
 ghost use Rattle.aol_flat.specs.Home.{is_part_end, link_into_part, link_up, tiler_at, link_into_repetition};
-ghost use Rattle.aol_flat.specs.Node.{nodes};
-ghost use Rattle.aol_flat.specs.NodeTable.{HasInput, HasOutput};
+ghost use Rattle.aol_flat.specs.Node.{Node, nodes};
+ghost use Rattle.aol_flat.specs.NodeTable.{IsNode, HasInput, HasOutput};
+ghost use Rattle.aol_model_types.specs.Types.{IsRepeated};
 ghost use Rattle.aol_flat.specs.Tasks.{part_number};
 
 use crate::flat::Flat;
@@ -25,8 +26,8 @@ pub(crate) enum Feed {
     Stored,
     /// An input of the compound task above, by a plain link.
     Own(u32),
-    /// An output of a part of the compound task above, by a plain link.
-    Part { part: u32, port: u32 },
+    /// An output of another part of the compound task above, whose node has this number, by a plain link.
+    Part { node: u32, port: u32 },
     /// An input of the repeated task above, by the tiler with this number.
     Tiled { tiler: u32, port: u32 },
     /// An output of another repetition of this node, by the link with this number.
@@ -202,6 +203,31 @@ fn body_hand(up: &Repeated, name: &Name) -> Hand
     }
 }
 
+/// What feeds an input of the body of a repeated task.
+fn body_feed(up: &Repeated, inner: &Task, name: &Name) -> Feed
+    requires tiled { TilesInputs up.now name.now }
+    requires linked { LinksOutputs up.now inner.now name.now }
+    requires up_limits { IsRepeated up.now }
+    requires few { length (outputs_of inner.now) < 2 ^ 32 }
+    ensures { BodyFeeds up.now inner.now name.now result }
+{
+    let tilers = up.tilers.as_slice();
+    if let Some(tiler) = tiler_place(tilers, name) {
+        return Feed::Tiled {
+            tiler: tiler as u32,
+            port: port_number(up.ins.as_slice(), &tilers[tiler].outer),
+        };
+    }
+    let links = up.links.as_slice();
+    let Some(link) = link_place(links, name) else {
+        unreachable!()
+    };
+    Feed::Linked {
+        link: link as u32,
+        port: output_number(inner, &links[link].from),
+    }
+}
+
 impl Flat {
     /// The task of the node with this number.
     pub(crate) fn task(&self, number: u32) -> &Task
@@ -226,6 +252,45 @@ impl Flat {
         match self.task(row.up) {
             Task::Compound(up) => part_hand(up, row.part as usize, name),
             Task::Repeated(up) => body_hand(up, name),
+            Task::Elementary(_) => unreachable!(),
+        }
+    }
+
+    /// What feeds an input of part `k` of the compound task of the node `above`.
+    fn part_feed(&self, above: u32, up: &Compound, k: usize, name: &Name) -> Feed
+        requires there { HasTask self.now.model above (Task.Compound up.now) }
+        requires flat { IsFlat self.now }
+        ensures { (node : Node) → IsNode self.now.model above node (Task.Compound up.now) → PartFeeds self.now.model node up.now k name.now result }
+    {
+        let Some(link) = link_into_part(up, k, name) else {
+            return Feed::Stored;
+        };
+        let port = &link.from.port;
+        let Some(giver) = &link.from.part else {
+            return Feed::Own(port_number(up.ins.as_slice(), port));
+        };
+        let node = self.below(above, part_number(up, giver) as u32);
+        Feed::Part {
+            node,
+            port: output_number(self.task(node), port),
+        }
+    }
+
+    /// What feeds an input of a node.
+    pub(crate) fn feed(&self, number: u32, port: u32) -> Feed
+        requires { HasInput self.now.model number port }
+        ensures feed { IsFeed self.now.model number port result }
+        ensures flat { IsFlat self.now }
+    {
+        let task = self.task(number);
+        let name = &input(task, port).name;
+        if number == 0 {
+            return Feed::Stored;
+        }
+        let row = self.row(number);
+        match self.task(row.up) {
+            Task::Compound(up) => self.part_feed(row.up, up, row.part as usize, name),
+            Task::Repeated(up) => body_feed(up, task, name),
             Task::Elementary(_) => unreachable!(),
         }
     }

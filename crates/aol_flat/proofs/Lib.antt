@@ -68,3 +68,4 @@ pub mod Fitting
 pub mod StoredAt
 pub mod Outward
 pub mod InputFeeds
+pub mod Inward

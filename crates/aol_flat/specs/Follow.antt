@@ -14,6 +14,8 @@ use Rattle.aol_flat.specs.Home.{home_of}
 use Rattle.aol_flat.specs.Feed.{IsHand, IsFeed}
 use Rattle.aol_flat.specs.declared.feed.Feed.TheVariants as feeds
 use Rattle.aol_flat.specs.declared.feed.Hand.TheVariants as hands
+use Rattle.aol_flat.specs.declared.follow.Source.{Source}
+use Rattle.aol_flat.specs.declared.follow.Source.TheVariants as sources
 use Rattle.aol_flat.specs.Laid.{Laid, IsCellOf, IsReadOf}
 use Rattle.aol_flat.specs.declared.view.Read.{Read}
 
@@ -97,3 +99,8 @@ pub record IsStoredInput (m : Model) (number k index x : ℕ) : Type 0 where
 -- the cell is that of the element, whichever indices of that rank its instance has
 abbrev pub IsCellAtRank : Laid → (Task → List Port) → ℕ → ℕ → ℕ → ℕ → ℕ → Type 0
 IsCellAtRank f ports number k index x cell = (at : List ℕ) → IsRankAround f.model number at index → IsCellOfPort f ports number k at x cell
+
+-- a step of following an input of a repetition by a link ends, or leads to an input of the repeated task
+abbrev pub IsSourceOf : Laid → ℕ → ℕ → List ℕ → ℕ → ℕ → List ℕ → Source → Type 0
+IsSourceOf f number k at x above around (sources.Ends read) = IsReadOfInput f number k at x read
+IsSourceOf f number k at x above around (sources.Input j y) = PortLeadsTo f.model inputs_of number k at x inputs_of above j around y

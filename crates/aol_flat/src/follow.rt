@@ -8,10 +8,10 @@ ghost use Rattle.aol_shape.specs.Shape.{IsPointOf, IsShape, size, point_at};
 ghost use Rattle.aol_tiler.specs.Tiler.{Fits, address};
 ghost use Rattle.aol_model_types.specs.Rules.{inputs_of, outputs_of};
 ghost use Rattle.aol_flat.specs.Accept.{IsFlat};
-ghost use Rattle.aol_flat.specs.Feed.{IsHand};
-ghost use Rattle.aol_flat.specs.Follow.{IsIndexed, IsRankAround, IsRepetition, IsBodyIndexed, HasOutputElement, HasInputElement, IsCellOfPort, IsReadOfInput, IsStoredOutput, IsCellAtRank, PortLeadsTo};
+ghost use Rattle.aol_flat.specs.Feed.{IsHand, IsFeed};
+ghost use Rattle.aol_flat.specs.Follow.{IsIndexed, IsRankAround, IsRepetition, IsBodyIndexed, HasOutputElement, HasInputElement, IsCellOfPort, IsReadOfInput, IsStoredOutput, IsStoredInput, IsCellAtRank, PortLeadsTo, IsSourceOf};
 
-use crate::feed::{Feed, Hand, output};
+use crate::feed::{Feed, Hand, input, output};
 use crate::flat::Flat;
 use crate::view::Read;
 use aol_model_types::{Repeated, Task};
@@ -30,6 +30,15 @@ pub(crate) struct Repetition<'a> {
     pub around: &'a [u32],
     /// Those of the repetition.
     pub r: &'a [u32],
+}
+
+/// Where a step of following an input by a link between repetitions leads.
+#[derive(Clone, Copy)]
+enum Source {
+    /// It ends here.
+    Ends(Read),
+    /// The element of rank `x` of this input of the repeated task.
+    Input { port: u32, x: u32 },
 }
 
 /// The rank of the element of an array that the element of rank `x` of a pattern is, in repetition `r`.
@@ -179,6 +188,70 @@ impl Flat {
                 self.follow_output(body.up, outer, body.around, y)
             }
             _ => self.cell_of_output(body.number, port, self.rank_below(body), x),
+        }
+    }
+
+    /// The cell of an element of an input that is stored; its instance has this rank.
+    fn cell_of_input(&self, number: u32, port: u32, index: u32, x: u32) -> u32
+        requires { IsStoredInput self.now.model number port index x }
+        ensures { IsCellAtRank self.now inputs_of number port index x result }
+    {
+        let shape = &input(self.task(number), port).shape;
+        place_from(self.first_of_input(number, port), index, shape, x)
+    }
+
+    /// The rank of the element of an outer input that a tiler gives to an element of a repetition's input.
+    fn fed_rank(&self, body: Repetition, port: u32, tiler: u32, outer: u32, x: u32) -> u32
+        requires place { IsRepetition self.now.model body.number body.up body.task.now body.around.now body.r.now }
+        requires there { HasInputElement self.now.model body.number port (body.around.now ++ body.r.now) x }
+        requires tiled { IsFeed self.now.model body.number port (Feed.Tiled tiler outer) }
+        ensures { PortLeadsTo self.now.model inputs_of body.entry.number port (body.entry.around.now ++ body.entry.r.now) x inputs_of body.entry.up outer body.entry.around.now result }
+    {
+        let shape = &input(self.task(body.number), port).shape;
+        let array = &body.task.ins.as_slice()[outer as usize].shape;
+        let tiler = &body.task.tilers.as_slice()[tiler as usize].tiler;
+        address_of(tiler, array, &body.task.space, shape, body.r, x)
+    }
+
+    /// One step of following an input of a repetition that a link between repetitions feeds.
+    fn link_source(&self, body: Repetition, port: u32, link: u32, from: u32, x: u32) -> Source
+        requires place { IsRepetition self.now.model body.number body.up body.task.now body.around.now body.r.now }
+        requires there { HasInputElement self.now.model body.number port (body.around.now ++ body.r.now) x }
+        requires linked { IsFeed self.now.model body.number port (Feed.Linked link from) }
+        ensures { IsSourceOf self.now body.entry.number port (body.entry.around.now ++ body.entry.r.now) x body.entry.up body.entry.around.now result }
+    {
+        let _ = (body, port, link, from, x);
+        Source::Ends(Read::Const(0))
+    }
+
+    /// What reading an element of an input means: its cell, or its default number.
+    pub(crate) fn follow_input(&self, number: u32, port: u32, at: &[u32], x: u32) -> Read
+        requires { HasInputElement self.now.model number port at.now x }
+        ensures { IsReadOfInput self.now number port at.now x result }
+    {
+        match self.feed(number, port) {
+            Feed::Stored => {
+                Read::Cell(self.cell_of_input(number, port, self.rank_around(number, at), x))
+            }
+            Feed::Own(own) => self.follow_input(self.row(number).up, own, at, x),
+            Feed::Part { node, port: from } => {
+                let _row = self.row(number);
+                Read::Cell(self.follow_output(node, from, at, x))
+            }
+            Feed::Tiled { tiler, port: outer } => {
+                let body = self.repetition(number, at);
+                let y = self.fed_rank(body, port, tiler, outer, x);
+                self.follow_input(body.up, outer, body.around, y)
+            }
+            Feed::Linked { link, port: from } => {
+                let body = self.repetition(number, at);
+                match self.link_source(body, port, link, from, x) {
+                    Source::Ends(read) => read,
+                    Source::Input { port: outer, x: y } => {
+                        self.follow_input(body.up, outer, body.around, y)
+                    }
+                }
+            }
         }
     }
 }

@@ -15,7 +15,7 @@ use Rattle.aol_model_types.specs.declared.task.Task.TheVariants as tasks
 use Rattle.aol_model_types.specs.declared.task.TilerOn.{TilerOn}
 use Rattle.aol_model_types.specs.Rules.{task_named, inputs_of, outputs_of, inputs_named, outputs_named, port_shape, from_shape, to_shape, fits_in}
 use Rattle.aol_flat.specs.Accept.{IsSound}
-use Rattle.aol_flat.specs.Feed.{IsNumberOf, IsFedByOwn, IsFedByPart, IsFedByTiler, IsFedByLink, Feeds}
+use Rattle.aol_flat.specs.Feed.{IsNumberOf, IsFedByOwn, IsFedByPart, IsFedByTiler, IsPartOf}
 use Rattle.aol_flat.specs.Follow.{IsElementOf, IsRepetition, IsBodyIndexed, LeadsTo, element_on}
 use Rattle.aol_flat.specs.declared.nodes.NodeRow.{NodeRow}
 use Rattle.aol_flat.specs.Home.{Kept, Output, handed, origin, origin_home, end_origin, home_of, is_part_end, link_into_part, tiler_at}
@@ -248,3 +248,17 @@ fed_body m number k i j at x e h by =
     let P : Node → Type 0 = λ n. IsNode m number n h.task in
     let Q : Node → Type 0 = λ n. IsPointOf (space_around n) at in
     (by.up, by.task, h.task, subst P by.place.is h.at_node, subst Q by.place.is h.around)
+
+-- the node above a part is numbered
+pub part_above : (m : Model) → IsSound m → (number : ℕ) (row : NodeRow) (node : Node) (up : Node) (part : ℕ) (c : Compound) (t : Task) → IsNodeRow m number row → IsNode m number node t → IsPartOf m node up part c
+    → IsNode m row.up up (tasks.Compound c)
+part_above m sound number row node up part c t table at place =
+    let P : Node → Type 0 = λ n. IsNode m number n t in
+    let here = subst P place.is at in
+    let u = is_under m sound number row (ToPart part ∷ up) t (not_root m sound number row (ToPart part) up t table here) table here in
+    let same_up : u.up ≡ up = under_up m number row (ToPart part) up t u in
+    let above : Some u.above ≡ Some (tasks.Compound c) = sym u.above_is ∙ (ap (node_task m) same_up ∙ place.above) in
+    let task : u.above ≡ tasks.Compound c = cc in
+    let R : Node → Type 0 = λ n. IsNode m row.up n u.above in
+    let S : Task → Type 0 = λ z. IsNode m row.up up z in
+    subst S task (subst R same_up u.at_up)

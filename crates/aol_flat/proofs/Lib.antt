@@ -69,3 +69,4 @@ pub mod StoredAt
 pub mod Outward
 pub mod InputFeeds
 pub mod Inward
+pub mod Linked

@@ -1,7 +1,9 @@
 -- Elements by numbers: those of the node, of the port among the inputs or outputs of its task, and of the point of the port's shape.
-use Rattle.std.specs.Prelude.{◌≡◌, ℕ, ◌<◌, List, ◌∷◌, slice_get, Some}
+use Rattle.std.specs.Prelude.{◌≡◌, ℕ, ◌<◌, List, ◌∷◌, slice_get, Some, None}
 use Rattle.aol_shape.specs.Shape.{IsPointOf, size, rank, point_at}
 use Rattle.aol_expr_tree.specs.declared.port.Port.{Port}
+use Rattle.aol_link.specs.declared.link.Interlink.{Interlink}
+use Rattle.aol_link.specs.Links.{source_repetition}
 use Rattle.aol_model_types.specs.declared.document.Model.{Model}
 use Rattle.aol_model_types.specs.declared.task.Repeated.{Repeated}
 use Rattle.aol_model_types.specs.declared.task.Task.{Task}
@@ -104,3 +106,7 @@ IsCellAtRank f ports number k index x cell = (at : List ℕ) → IsRankAround f.
 abbrev pub IsSourceOf : Laid → ℕ → ℕ → List ℕ → ℕ → ℕ → List ℕ → Source → Type 0
 IsSourceOf f number k at x above around (sources.Ends read) = IsReadOfInput f number k at x read
 IsSourceOf f number k at x above around (sources.Input j y) = PortLeadsTo f.model inputs_of number k at x inputs_of above j around y
+
+-- the link with this number comes from outside the space
+abbrev pub LeadsOutside : Repeated → ℕ → List ℕ → Type 0
+LeadsOutside t number r = (l : Interlink) → slice_get t.links number ≡ Some l → source_repetition l.wrap l.distance t.space r ≡ None

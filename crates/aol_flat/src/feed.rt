@@ -91,7 +91,7 @@ fn place_of_part(parts: &[Part], name: &Name) -> Option<usize>
 }
 
 /// The number of the port with this name, which is there.
-fn port_number(ports: &[Port], name: &Name) -> u32
+pub(crate) fn port_number(ports: &[Port], name: &Name) -> u32
     requires there { is_some (port_shape ports.now name.now) ≡ true }
     requires few { length ports.now < 2 ^ 32 }
     ensures { IsNumberOf ports.now name.now result }

@@ -9,11 +9,12 @@ ghost use Rattle.aol_tiler.specs.Tiler.{Fits, address};
 ghost use Rattle.aol_model_types.specs.Rules.{inputs_of, outputs_of};
 ghost use Rattle.aol_flat.specs.Accept.{IsFlat};
 ghost use Rattle.aol_flat.specs.Feed.{IsHand, IsFeed};
-ghost use Rattle.aol_flat.specs.Follow.{IsIndexed, IsRankAround, IsRepetition, IsBodyIndexed, HasOutputElement, HasInputElement, IsCellOfPort, IsReadOfInput, IsStoredOutput, IsStoredInput, IsCellAtRank, PortLeadsTo, IsSourceOf};
+ghost use Rattle.aol_flat.specs.Follow.{IsIndexed, IsRankAround, IsRepetition, IsBodyIndexed, HasOutputElement, HasInputElement, IsCellOfPort, IsReadOfInput, IsStoredOutput, IsStoredInput, IsCellAtRank, PortLeadsTo, IsSourceOf, LeadsOutside};
 
-use crate::feed::{Feed, Hand, input, output};
+use crate::feed::{Feed, Hand, input, output, port_number};
 use crate::flat::Flat;
 use crate::view::Read;
+use aol_link::Fallback;
 use aol_model_types::{Repeated, Task};
 use aol_shape::{Shape, rank_of, unrank_into};
 use aol_tiler::Tiler;
@@ -218,10 +219,49 @@ impl Flat {
         requires place { IsRepetition self.now.model body.number body.up body.task.now body.around.now body.r.now }
         requires there { HasInputElement self.now.model body.number port (body.around.now ++ body.r.now) x }
         requires linked { IsFeed self.now.model body.number port (Feed.Linked link from) }
+        requires flat { IsFlat self.now }
         ensures { IsSourceOf self.now body.entry.number port (body.entry.around.now ++ body.entry.r.now) x body.entry.up body.entry.around.now result }
     {
-        let _ = (body, port, link, from, x);
-        Source::Ends(Read::Const(0))
+        let interlink = &body.task.links.as_slice()[link as usize];
+        let space = &body.task.space;
+        let mut buffer = [0u32; 12];
+        let found = &mut buffer[..space.as_slice().len()];
+        if interlink.before(space, body.r, found) {
+            let source = Repetition {
+                number: body.number,
+                up: body.up,
+                task: body.task,
+                around: body.around,
+                r: found,
+            };
+            return Source::Ends(Read::Cell(self.follow_output_of(source, from, x)));
+        }
+        self.default_source(body, port, link, from, x)
+    }
+
+    /// The same where the link comes from outside the space.
+    fn default_source(&self, body: Repetition, port: u32, link: u32, from: u32, x: u32) -> Source
+        requires place { IsRepetition self.now.model body.number body.up body.task.now body.around.now body.r.now }
+        requires there { HasInputElement self.now.model body.number port (body.around.now ++ body.r.now) x }
+        requires linked { IsFeed self.now.model body.number port (Feed.Linked link from) }
+        requires outside { LeadsOutside body.task.now link body.r.now }
+        ensures { IsSourceOf self.now body.entry.number port (body.entry.around.now ++ body.entry.r.now) x body.entry.up body.entry.around.now result }
+    {
+        let shape = &input(self.task(body.number), port).shape;
+        let space = &body.task.space;
+        let link = &body.task.links.as_slice()[link as usize];
+        match &link.rest.as_slice()[link.choice(space, body.r) as usize].take {
+            Fallback::Number(number) => Source::Ends(Read::Const(*number)),
+            Fallback::Tiled { outer, tiler } => {
+                let ins = body.task.ins.as_slice();
+                let outer = port_number(ins, outer);
+                let array = &ins[outer as usize].shape;
+                Source::Input {
+                    port: outer,
+                    x: address_of(tiler, array, space, shape, body.r, x),
+                }
+            }
+        }
     }
 
     /// What reading an element of an input means: its cell, or its default number.

@@ -42,6 +42,13 @@ enum Source {
     Input { port: u32, x: u32 },
 }
 
+/// The step that ends at a default number.
+fn constant(number: &i64) -> Source
+    ensures { result ≡ Source.Ends (Read.Const number.now) }
+{
+    Source::Ends(Read::Const(*number))
+}
+
 /// The rank of the element of an array that the element of rank `x` of a pattern is, in repetition `r`.
 fn address_of(tiler: &Tiler, array: &Shape, space: &Shape, pattern: &Shape, r: &[u32], x: u32) -> u32
     requires space { IsShape space.now }
@@ -251,7 +258,7 @@ impl Flat {
         let space = &body.task.space;
         let link = &body.task.links.as_slice()[link as usize];
         match &link.rest.as_slice()[link.choice(space, body.r) as usize].take {
-            Fallback::Number(number) => Source::Ends(Read::Const(*number)),
+            Fallback::Number(number) => constant(number),
             Fallback::Tiled { outer, tiler } => {
                 let ins = body.task.ins.as_slice();
                 let outer = port_number(ins, outer);

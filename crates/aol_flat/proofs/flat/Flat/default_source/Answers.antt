@@ -1,4 +1,4 @@
-use Rattle.std.proofs.Common.{◌≡◌, ◌<◌, ◌++◌, ◌∙◌, length, get_or, slice_get, is_some, true, w64, ℕ, List, Some, None, sym, ap, subst, arith}
+use Rattle.std.proofs.Common.{◌≡◌, ◌<◌, ◌++◌, ◌∙◌, length, get_or, slice_get, is_some, true, ℕ, List, Some, None, sym, ap, subst, arith}
 use Rattle.std.proofs.lemmas.Option.{slice_get_within}
 use Rattle.aol_shape.specs.Shape.{size, point_at}
 use Rattle.aol_tiler.specs.Tiler.{fits, address}
@@ -8,11 +8,12 @@ use Rattle.aol_link.specs.declared.link.Fallback.TheVariants.{Number, Tiled}
 use Rattle.aol_link.specs.declared.link.Interlink.{Interlink}
 use Rattle.aol_link.specs.Links.{source_repetition}
 use Rattle.aol_link.specs.Types.{IsDefaulted}
-use Rattle.aol_link.proofs.Outside.{to_z_back}
 use Rattle.aol_model_types.specs.declared.task.Task.TheVariants as tasks
 use Rattle.aol_model_types.specs.Rules.{inputs_of, port_shape}
 use Rattle.aol_flat.specs.Feed.{IsNumberOf}
-use Rattle.aol_flat.specs.Home.{Constant, default_choice}
+use Rattle.aol_flat.specs.Home.{default_choice}
+use Rattle.aol_flat.specs.Follow.{IsSourceOf}
+use Rattle.aol_flat.specs.declared.follow.Source.{Source}
 use Rattle.aol_flat.proofs.Among.{among_get}
 use Rattle.aol_flat.proofs.Linked.{the_link, defaulted, number_home, outer_there, default_fits, default_leads}
 use Rattle.aol_flat.proofs.NodeAt.{one_node, limits_known, read_port, read_item}
@@ -42,7 +43,9 @@ choice-requires c =
     subst P (sym same_link) (defaulted m c.task.ensures.flat.sound b.number b.up c.args.port c.args.link c.args.from b.task.now b.around.now b.r.now c.args.x c.requires.there.0 c.requires.place h by outside)
 
 pub returns-in-Number : goal.returns-in-Number
-returns-in-Number c = λ e h.
+returns-in-Number c =
+    let P : Source → Type 0 = λ z. IsSourceOf c.args.self.now c.args.body.number c.args.port (c.args.body.around.now ++ c.args.body.r.now) c.args.x c.args.body.up c.args.body.around.now z in
+    subst P (sym c.constant.ensures) (λ e h.
     let m = c.args.self.now.model in
     let b = c.args.body in
     let by = c.requires.linked h.node h.task h.port h.at_node h.listed in
@@ -58,7 +61,7 @@ returns-in-Number c = λ e h.
         ∙ among_get rest c.choice.result ch c.choice.ensures.within (c.index-as_slice-choice.is ∙ ap (λ zs. get_or zs c.choice.result ch) c.as_slice-2.ensures)) in
     let n = c.in-Number.number in
     let takes : ch.take ≡ Number n = ap (λ (z : Choice). z.take) c.index-as_slice-choice.is ∙ c.in-Number.is in
-    number_home m c.task.ensures.flat.sound b.number b.up c.args.port c.args.link c.args.from b.task.now b.around.now b.r.now c.args.x e c.requires.place h by outside ch chosen n takes ∙ ap (λ z. Constant z) (sym (to_z_back w64 n ?))
+    number_home m c.task.ensures.flat.sound b.number b.up c.args.port c.args.link c.args.from b.task.now b.around.now b.r.now c.args.x e c.requires.place h by outside ch chosen n takes)
 
 pub port_number-outer-requires-clause-there : goal.port_number-outer-requires-clause-there
 port_number-outer-requires-clause-there c =

@@ -56,10 +56,10 @@ module _ (m : Model) (sound : IsSound m) where
         let to_place : instance_of_end c (place_on up at) l.to.part ≡ IntoPart part ∷ place_on up at =
         ap (instance_of_end c (place_on up at)) end.1 ∙ ap (λ (n : ℕ). IntoPart n ∷ place_on up at) end.2 in
         let inner = one_shape m (IntoPart part ∷ place_on up at) p.name s.0 p.shape
-            (moved_shape m (instance_of_end c (place_on up at) l.to.part) (IntoPart part ∷ place_on up at) l.to.port p.name s.0 to_place end.3 (taken_shape m sound (place_on up at) c l.to s.0 at_place r.0 s.2))
-            (input_shape_on m sound number (ToPart part ∷ up) t at here around k p listed) in
+        (moved_shape m (instance_of_end c (place_on up at) l.to.part) (IntoPart part ∷ place_on up at) l.to.port p.name s.0 to_place end.3 (taken_shape m sound (place_on up at) c l.to s.0 at_place r.0 s.2))
+        (input_shape_on m sound number (ToPart part ∷ up) t at here around k p listed) in
         let outside = one_shape m place q.name s.0 q.shape
-            (moved_shape m (instance_of_end c (place_on up at) l.from.part) place l.from.port q.name s.0 from_place (sym named) (given_shape m sound (place_on up at) c l.from s.0 at_place r.0 s.1)) own in
+        (moved_shape m (instance_of_end c (place_on up at) l.from.part) place l.from.port q.name s.0 from_place (sym named) (given_shape m sound (place_on up at) c l.from s.0 at_place r.0 s.1)) own in
         sym outside ∙ inner
 
     start : (o : Option (List ℕ)) → l.from.part ≡ o
@@ -108,8 +108,7 @@ module _ (m : Model) (sound : IsSound m) where
       let around = subst Q by.place.is h.around in
       let u = under_part number row by.up by.part by.task h.task table here by.place.above in
       let q = by.port.port in
-      let shapes = own_shape number row.up by.up by.part by.task h.task at x k h.port by.link here u.1 around h.listed by.found j q by.own by.port.listed by.port.named in
-      (
+      let shapes = own_shape number row.up by.up by.part by.task h.task at x k h.port by.link here u.1 around h.listed by.found j q by.own by.port.listed by.port.named in (
         u.0,
         record {
           next = element_on by.up at q x;

@@ -70,3 +70,4 @@ pub mod Outward
 pub mod InputFeeds
 pub mod Inward
 pub mod Linked
+pub mod FirstOnes

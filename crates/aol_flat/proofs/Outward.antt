@@ -68,11 +68,11 @@ module _ (m : Model) (sound : IsSound m) where
         ap (instance_of_end c (place_on up at)) end.1 ∙ ap (λ (n : ℕ). IntoPart n ∷ place_on up at) end.2 in
         let to_place : instance_of_end c (place_on up at) l.to.part ≡ place_on up at = ap (instance_of_end c (place_on up at)) own in
         let inner = one_shape m (IntoPart part ∷ place_on up at) p.name s.0 p.shape
-            (moved_shape m (instance_of_end c (place_on up at) l.from.part) (IntoPart part ∷ place_on up at) l.from.port p.name s.0 from_place end.3 (given_shape m sound (place_on up at) c l.from s.0 at_place r.0 s.1))
-            (output_shape_on m sound number (ToPart part ∷ up) t at here around k p listed) in
+        (moved_shape m (instance_of_end c (place_on up at) l.from.part) (IntoPart part ∷ place_on up at) l.from.port p.name s.0 from_place end.3 (given_shape m sound (place_on up at) c l.from s.0 at_place r.0 s.1))
+        (output_shape_on m sound number (ToPart part ∷ up) t at here around k p listed) in
         let outside = one_shape m (place_on up at) q.name s.0 q.shape
-            (moved_shape m (instance_of_end c (place_on up at) l.to.part) (place_on up at) l.to.port q.name s.0 to_place (sym named) (taken_shape m sound (place_on up at) c l.to s.0 at_place r.0 s.2))
-            (output_shape_on m sound above up (tasks.Compound c) at there around j q outer) in
+        (moved_shape m (instance_of_end c (place_on up at) l.to.part) (place_on up at) l.to.port q.name s.0 to_place (sym named) (taken_shape m sound (place_on up at) c l.to s.0 at_place r.0 s.2))
+        (output_shape_on m sound above up (tasks.Compound c) at there around j q outer) in
         sym outside ∙ inner
 
     up_home : home_of m (element_on (ToPart part ∷ up) at p x) ≡ home_of m (element_on up at q x)
@@ -101,8 +101,7 @@ module _ (m : Model) (sound : IsSound m) where
       let S : Task → Type 0 = λ z. IsNode m row.up by.up z in
       let there = subst S task (subst R up u.at_up) in
       let q = by.port.port in
-      let shapes = up_shape number row.up by.up by.part by.task h.task at x k j h.port q by.link here there around h.listed by.found by.port.listed by.port.named in
-      (
+      let shapes = up_shape number row.up by.up by.part by.task h.task at x k j h.port q by.link here there around h.listed by.found by.port.listed by.port.named in (
         u.lower,
         record {
           next = element_on by.up at q x;

@@ -28,11 +28,11 @@ found_at {X} test xs k h = go (nat_lt (position_or_len test xs) (length xs)) ref
   where
     by_item : position_or_len test xs ≡ k → k < length xs → IsFoundAt test xs k
     by_item e l = elim ((slice_get_cases xs k).1) [
-        | inl a ↦
-            let first : find test xs ≡ Some a.0 = find_at test xs ∙ (ap (slice_get xs) e ∙ a.2) in
-            record { item = a.0; listed = a.2; first = first; passes = find-passes test xs a.0 first; within = l }
-        | inr a ↦ absurd (omega (arith, a.0, l))
-      ]
+      | inl a ↦
+          let first : find test xs ≡ Some a.0 = find_at test xs ∙ (ap (slice_get xs) e ∙ a.2) in
+          record { item = a.0; listed = a.2; first = first; passes = find-passes test xs a.0 first; within = l }
+      | inr a ↦ absurd (omega (arith, a.0, l))
+    ]
 
     go : (b : Bool) → nat_lt (position_or_len test xs) (length xs) ≡ b → cond b (Some (position_or_len test xs)) None ≡ Some k → IsFoundAt test xs k
     go true e f =

@@ -32,3 +32,4 @@ pub mod Keep
 pub mod Sources
 pub mod Feed
 pub mod Follow
+pub mod Cursor

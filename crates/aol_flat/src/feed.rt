@@ -15,8 +15,8 @@ ghost use Rattle.aol_flat.specs.Tasks.{part_number};
 
 use crate::flat::Flat;
 use aol_expr_tree::Port;
-use aol_model_types::{Compound, Hook, OutPort, Part, Plain, Repeated, Task, TilerOn};
 use aol_link::Interlink;
+use aol_model_types::{Compound, Hook, OutPort, Part, Plain, Repeated, Task, TilerOn};
 use aol_shape::{Name, are_same};
 
 /// What feeds an input of a node.
@@ -143,7 +143,10 @@ fn part_number(task: &Compound, name: &Name) -> usize
 fn link_into_part<'a>(task: &'a Compound, k: usize, port: &Name) -> Option<&'a Plain>
     ensures { option_copied result ≡ link_into_part task.now k port.now }
 {
-    task.links.as_slice().iter().find(|link| is_part_end(task, k, port, &link.to))
+    task.links
+        .as_slice()
+        .iter()
+        .find(|link| is_part_end(task, k, port, &link.to))
 }
 
 /// Whether a link hands an output of part `k` up.
@@ -157,14 +160,19 @@ fn hands_up(task: &Compound, k: usize, port: &Name, link: &Plain) -> bool
 fn link_up<'a>(task: &'a Compound, k: usize, port: &Name) -> Option<&'a Plain>
     ensures { option_copied result ≡ link_up task.now k port.now }
 {
-    task.links.as_slice().iter().find(|link| hands_up(task, k, port, link))
+    task.links
+        .as_slice()
+        .iter()
+        .find(|link| hands_up(task, k, port, link))
 }
 
 /// The number of the tiler at an inner port.
 fn tiler_place(tilers: &[TilerOn], inner: &Name) -> Option<usize>
     ensures { result ≡ position (λ o. same o.inner inner.now) tilers.now }
 {
-    tilers.iter().position(|tiler| are_same(&tiler.inner, inner))
+    tilers
+        .iter()
+        .position(|tiler| are_same(&tiler.inner, inner))
 }
 
 /// The number of the link between repetitions into an inner input.

@@ -50,7 +50,14 @@ fn constant(number: &i64) -> Source
 }
 
 /// The rank of the element of an array that the element of rank `x` of a pattern is, in repetition `r`.
-fn address_of(tiler: &Tiler, array: &Shape, space: &Shape, pattern: &Shape, r: &[u32], x: u32) -> u32
+fn address_of(
+    tiler: &Tiler,
+    array: &Shape,
+    space: &Shape,
+    pattern: &Shape,
+    r: &[u32],
+    x: u32,
+) -> u32
     requires space { IsShape space.now }
     requires fits { Fits tiler.now array.now space.now pattern.now }
     requires repetition { IsPointOf space.now r.now }
@@ -171,9 +178,7 @@ impl Flat {
         ensures { IsCellOfPort self.now outputs_of number port at.now x result }
     {
         match self.hand(number, port) {
-            Hand::Stored => {
-                self.cell_of_output(number, port, self.rank_around(number, at), x)
-            }
+            Hand::Stored => { self.cell_of_output(number, port, self.rank_around(number, at), x) }
             Hand::Own(own) => self.follow_output(self.row(number).up, own, at, x),
             Hand::Tiled { tiler, port: outer } => {
                 let body = self.repetition(number, at);

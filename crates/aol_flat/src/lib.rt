@@ -6,6 +6,7 @@
 #![tactic(auto)]
 
 mod counts;
+mod cursor;
 mod feed;
 mod flat;
 mod follow;

@@ -15,7 +15,7 @@ port_number-requires-clause-there c =
     let o = c.index-tilers-tiler.result in
     let outs = c.args.up.now.outs in
     let f = found_at (λ (z : TilerOn). same z.inner c.args.name.now) c.args.up.now.tilers k
-        (sym (ap (position (λ (z : TilerOn). same z.inner c.args.name.now)) c.as_slice-tilers.ensures) ∙ (sym c.tiler_place.ensures ∙ c.in-Some.is)) in
+    (sym (ap (position (λ (z : TilerOn). same z.inner c.args.name.now)) c.as_slice-tilers.ensures) ∙ (sym c.tiler_place.ensures ∙ c.in-Some.is)) in
     let is : get_or c.as_slice-tilers.result.now k o ≡ f.item = ap (λ ts. get_or ts k o) c.as_slice-tilers.ensures ∙ get_or_from_slice_get c.args.up.now.tilers k f.item o f.listed in
     ap (λ ps. is_some (port_shape ps (get_or c.as_slice-tilers.result.now k o).outer)) c.as_slice.ensures
     ∙ (ap (λ (z : TilerOn). is_some (port_shape outs z.outer)) is ∙ c.requires.there f.item f.first)
@@ -30,7 +30,7 @@ returns-in-Some c =
     let k = c.in-Some.tiler in
     let o = c.index-tilers-tiler.result in
     let f = found_at (λ (z : TilerOn). same z.inner c.args.name.now) c.args.up.now.tilers k
-        (sym (ap (position (λ (z : TilerOn). same z.inner c.args.name.now)) c.as_slice-tilers.ensures) ∙ (sym c.tiler_place.ensures ∙ c.in-Some.is)) in
+    (sym (ap (position (λ (z : TilerOn). same z.inner c.args.name.now)) c.as_slice-tilers.ensures) ∙ (sym c.tiler_place.ensures ∙ c.in-Some.is)) in
     let is : get_or c.as_slice-tilers.result.now k o ≡ f.item = ap (λ ts. get_or ts k o) c.as_slice-tilers.ensures ∙ get_or_from_slice_get c.args.up.now.tilers k f.item o f.listed in
     let P : List Port → Type 0 = λ ps. IsNumberOf ps (get_or c.as_slice-tilers.result.now k o).outer c.port_number.result in
     let Q : TilerOn → Type 0 = λ z. IsNumberOf c.args.up.now.outs z.outer c.port_number.result in

@@ -26,14 +26,14 @@ pub follow_input-requires-in-Tiled : goal.follow_input-requires-in-Tiled
 follow_input-requires-in-Tiled t c =
     let body = c.repetition-body in
     let l = c.fed_rank-y.ensures c.requires.0
-        (moved_element c.args.self.now.model inputs_of c.args.number body.result.number c.args.port c.args.at.now (body.result.around.now ++ body.result.r.now) c.args.x c.requires.0 body.ensures.number body.ensures.whole c.requires.1) in
+    (moved_element c.args.self.now.model inputs_of c.args.number body.result.number c.args.port c.args.at.now (body.result.around.now ++ body.result.r.now) c.args.x c.requires.0 body.ensures.number body.ensures.whole c.requires.1) in
     (omega (arith, body.ensures.place.lower, c.decreases), (l.next, l.is))
 
 pub follow_input-requires-in-Input : goal.follow_input-requires-in-Input
 follow_input-requires-in-Input t c =
     let body = c.repetition-body-in-Linked in
     let l = c.in-Input.ensures c.requires.0
-        (moved_element c.args.self.now.model inputs_of c.args.number body.result.number c.args.port c.args.at.now (body.result.around.now ++ body.result.r.now) c.args.x c.requires.0 body.ensures.number body.ensures.whole c.requires.1) in
+    (moved_element c.args.self.now.model inputs_of c.args.number body.result.number c.args.port c.args.at.now (body.result.around.now ++ body.result.r.now) c.args.x c.requires.0 body.ensures.number body.ensures.whole c.requires.1) in
     (omega (arith, body.ensures.place.lower, c.decreases), (l.next, l.is))
 
 pub returns-in-Stored : goal.returns-in-Stored
@@ -58,12 +58,12 @@ pub returns-in-Tiled : goal.returns-in-Tiled
 returns-in-Tiled t c = λ e h.
     let body = c.repetition-body in
     let l = c.fed_rank-y.ensures e
-        (moved_element c.args.self.now.model inputs_of c.args.number body.result.number c.args.port c.args.at.now (body.result.around.now ++ body.result.r.now) c.args.x e body.ensures.number body.ensures.whole h) in
+    (moved_element c.args.self.now.model inputs_of c.args.number body.result.number c.args.port c.args.at.now (body.result.around.now ++ body.result.r.now) c.args.x e body.ensures.number body.ensures.whole h) in
     read_moves c.args.self.now e l.next c.follow_input-in-Tiled.result l.home (c.follow_input-in-Tiled.ensures l.next l.is)
 
 pub returns-in-Input : goal.returns-in-Input
 returns-in-Input t c = λ e h.
     let body = c.repetition-body-in-Linked in
     let l = c.in-Input.ensures e
-        (moved_element c.args.self.now.model inputs_of c.args.number body.result.number c.args.port c.args.at.now (body.result.around.now ++ body.result.r.now) c.args.x e body.ensures.number body.ensures.whole h) in
+    (moved_element c.args.self.now.model inputs_of c.args.number body.result.number c.args.port c.args.at.now (body.result.around.now ++ body.result.r.now) c.args.x e body.ensures.number body.ensures.whole h) in
     read_moves c.args.self.now e l.next c.follow_input-in-Input.result l.home (c.follow_input-in-Input.ensures l.next l.is)

@@ -19,7 +19,7 @@ pub follow_output-requires-in-Tiled : goal.follow_output-requires-in-Tiled
 follow_output-requires-in-Tiled t c =
     let body = c.repetition-body in
     let l = c.handed_rank-y.ensures c.requires.0
-        (moved_element c.args.self.now.model outputs_of c.args.number body.result.number c.args.port c.args.at.now (body.result.around.now ++ body.result.r.now) c.args.x c.requires.0 body.ensures.number body.ensures.whole c.requires.1) in
+    (moved_element c.args.self.now.model outputs_of c.args.number body.result.number c.args.port c.args.at.now (body.result.around.now ++ body.result.r.now) c.args.x c.requires.0 body.ensures.number body.ensures.whole c.requires.1) in
     (omega (arith, body.ensures.place.lower, c.decreases), (l.next, l.is))
 
 pub returns-in-Stored : goal.returns-in-Stored
@@ -35,5 +35,5 @@ pub returns-in-Tiled : goal.returns-in-Tiled
 returns-in-Tiled t c = λ e h.
     let body = c.repetition-body in
     let l = c.handed_rank-y.ensures e
-        (moved_element c.args.self.now.model outputs_of c.args.number body.result.number c.args.port c.args.at.now (body.result.around.now ++ body.result.r.now) c.args.x e body.ensures.number body.ensures.whole h) in
+    (moved_element c.args.self.now.model outputs_of c.args.number body.result.number c.args.port c.args.at.now (body.result.around.now ++ body.result.r.now) c.args.x e body.ensures.number body.ensures.whole h) in
     cell_moves c.args.self.now e l.next c.follow_output-in-Tiled.result l.home (c.follow_output-in-Tiled.ensures l.next l.is)

@@ -25,9 +25,14 @@ rank_around-rank_below-requires t c =
     let above = c.task.ensures.task in
     let P : Task → Type 0 = λ x. IsNode m c.row-up.result.up above.0 x in
     let b = reached_body m c.task.ensures.flat.sound c.args.number c.row-up.result c.requires.0 c.requires.1 c.if-number-eq0.false c.row-up.ensures c.requires.2 c.in-Repeated.task above.0 (subst P c.in-Repeated.is above.1) in
-    let low = b.lower in
-    (search rules, (repetition_split m c.args.number c.row-up.result.up (length c.as_slice.result.now) c.requires.0 above.0 c.requires.1 c.in-Repeated.task c.args.at.now c.split_at.result.0.now c.split_at.result.1.now
-    c.requires.2 (subst P c.in-Repeated.is above.1) b c.requires.3 (ap length c.as_slice.ensures.entries) c.split_at.ensures.front c.split_at.ensures.back, c.task.ensures.flat))
+    let low = b.lower in (
+      search rules,
+      (
+        repetition_split m c.args.number c.row-up.result.up (length c.as_slice.result.now) c.requires.0 above.0 c.requires.1 c.in-Repeated.task c.args.at.now c.split_at.result.0.now c.split_at.result.1.now
+            c.requires.2 (subst P c.in-Repeated.is above.1) b c.requires.3 (ap length c.as_slice.ensures.entries) c.split_at.ensures.front c.split_at.ensures.back,
+        c.task.ensures.flat,
+      ),
+    )
 
 pub rank_around-rank_around-requires : goal.rank_around-rank_around-requires
 rank_around-rank_around-requires t c =

@@ -57,8 +57,8 @@ returns-in-Number c =
     let rest = c.index-as_slice-link.result.rest in
     let C : Interlink → Type 0 = λ l. default_choice l b.task.now.space b.r.now ≡ Some ch in
     let chosen = subst C same_link
-        (ap (slice_get rest) (sym c.choice.ensures.number)
-        ∙ among_get rest c.choice.result ch c.choice.ensures.within (c.index-as_slice-choice.is ∙ ap (λ zs. get_or zs c.choice.result ch) c.as_slice-2.ensures)) in
+    (ap (slice_get rest) (sym c.choice.ensures.number)
+    ∙ among_get rest c.choice.result ch c.choice.ensures.within (c.index-as_slice-choice.is ∙ ap (λ zs. get_or zs c.choice.result ch) c.as_slice-2.ensures)) in
     let n = c.in-Number.number in
     let takes : ch.take ≡ Number n = ap (λ (z : Choice). z.take) c.index-as_slice-choice.is ∙ c.in-Number.is in
     number_home m c.task.ensures.flat.sound b.number b.up c.args.port c.args.link c.args.from b.task.now b.around.now b.r.now c.args.x e c.requires.place h by outside ch chosen n takes)
@@ -77,8 +77,8 @@ port_number-outer-requires-clause-there c =
     let rest = c.index-as_slice-link.result.rest in
     let C : Interlink → Type 0 = λ l. default_choice l b.task.now.space b.r.now ≡ Some ch in
     let chosen = subst C same_link
-        (ap (slice_get rest) (sym c.choice.ensures.number)
-        ∙ among_get rest c.choice.result ch c.choice.ensures.within (c.index-as_slice-choice.is ∙ ap (λ zs. get_or zs c.choice.result ch) c.as_slice-2.ensures)) in
+    (ap (slice_get rest) (sym c.choice.ensures.number)
+    ∙ among_get rest c.choice.result ch c.choice.ensures.within (c.index-as_slice-choice.is ∙ ap (λ zs. get_or zs c.choice.result ch) c.as_slice-2.ensures)) in
     let takes : ch.take ≡ Tiled c.in-Tiled.outer c.in-Tiled.tiler = ap (λ (z : Choice). z.take) c.index-as_slice-choice.is ∙ c.in-Tiled.is in
     ap (λ ps. is_some (port_shape ps c.in-Tiled.outer)) c.as_slice-ins.ensures ∙ outer_there m c.task.ensures.flat.sound b.number b.up c.args.port c.args.link c.args.from b.task.now b.around.now b.r.now c.args.x c.requires.there.0 c.requires.place h by outside ch chosen c.in-Tiled.outer c.in-Tiled.tiler takes
 
@@ -112,8 +112,8 @@ address_of-requires-clause-fits c =
     let rest = c.index-as_slice-link.result.rest in
     let C : Interlink → Type 0 = λ l. default_choice l b.task.now.space b.r.now ≡ Some ch in
     let chosen = subst C same_link
-        (ap (slice_get rest) (sym c.choice.ensures.number)
-        ∙ among_get rest c.choice.result ch c.choice.ensures.within (c.index-as_slice-choice.is ∙ ap (λ zs. get_or zs c.choice.result ch) c.as_slice-2.ensures)) in
+    (ap (slice_get rest) (sym c.choice.ensures.number)
+    ∙ among_get rest c.choice.result ch c.choice.ensures.within (c.index-as_slice-choice.is ∙ ap (λ zs. get_or zs c.choice.result ch) c.as_slice-2.ensures)) in
     let takes : ch.take ≡ Tiled c.in-Tiled.outer c.in-Tiled.tiler = ap (λ (z : Choice). z.take) c.index-as_slice-choice.is ∙ c.in-Tiled.is in
     let N : List Port → Type 0 = λ ps. IsNumberOf ps c.in-Tiled.outer c.port_number-outer.result in
     let q = subst N c.as_slice-ins.ensures c.port_number-outer.ensures in
@@ -149,8 +149,8 @@ returns-in-Tiled c = λ e h.
     let rest = c.index-as_slice-link.result.rest in
     let C : Interlink → Type 0 = λ l. default_choice l b.task.now.space b.r.now ≡ Some ch in
     let chosen = subst C same_link
-        (ap (slice_get rest) (sym c.choice.ensures.number)
-        ∙ among_get rest c.choice.result ch c.choice.ensures.within (c.index-as_slice-choice.is ∙ ap (λ zs. get_or zs c.choice.result ch) c.as_slice-2.ensures)) in
+    (ap (slice_get rest) (sym c.choice.ensures.number)
+    ∙ among_get rest c.choice.result ch c.choice.ensures.within (c.index-as_slice-choice.is ∙ ap (λ zs. get_or zs c.choice.result ch) c.as_slice-2.ensures)) in
     let takes : ch.take ≡ Tiled c.in-Tiled.outer c.in-Tiled.tiler = ap (λ (z : Choice). z.take) c.index-as_slice-choice.is ∙ c.in-Tiled.is in
     let N : List Port → Type 0 = λ ps. IsNumberOf ps c.in-Tiled.outer c.port_number-outer.result in
     let q = subst N c.as_slice-ins.ensures c.port_number-outer.ensures in

@@ -65,29 +65,33 @@ unreachable-requires c =
     no_step m c.in-Elementary.field-0 u.branch t (sym (ap (λ a. task_under m a u.branch) is) ∙ u.leads)
 
 pub returns-in-Compound : goal.returns-in-Compound
-returns-in-Compound c = record { hand = λ node t p at listed.
-    let m = c.args.self.now.model in
-    let sound = c.task.ensures.flat.sound in
-    let above = c.task-2.ensures.task in
-    let here = c.task.ensures.task in
-    let u = is_under m sound c.args.number c.row-row.result node t c.if-number-eq0.false c.row-row.ensures at in
-    let is : u.above ≡ tasks.Compound c.in-Compound.up = above_same m c.args.number c.row-row.result node above.0 t c.task-2.result.now u above.1 ∙ c.in-Compound.is in
-    let same_task : t ≡ c.task.result.now = (one_node m c.args.number node here.0 t c.task.result.now at here.1).1 in
-    let same_port : c.output.result.now ≡ p = read_port outputs_of t c.task.result.now c.args.port p c.output.result.now same_task listed c.output.ensures in
-    let P : Port → Type 0 = λ q. PartHands c.in-Compound.up c.row-row.result.part q.name c.part_hand.result in
-    part_hands m c.args.number c.row-row.result node t p c.in-Compound.up c.part_hand.result u is (subst P same_port c.part_hand.ensures);
-  flat = c.task.ensures.flat }
+returns-in-Compound c = record {
+  hand = λ node t p at listed.
+      let m = c.args.self.now.model in
+      let sound = c.task.ensures.flat.sound in
+      let above = c.task-2.ensures.task in
+      let here = c.task.ensures.task in
+      let u = is_under m sound c.args.number c.row-row.result node t c.if-number-eq0.false c.row-row.ensures at in
+      let is : u.above ≡ tasks.Compound c.in-Compound.up = above_same m c.args.number c.row-row.result node above.0 t c.task-2.result.now u above.1 ∙ c.in-Compound.is in
+      let same_task : t ≡ c.task.result.now = (one_node m c.args.number node here.0 t c.task.result.now at here.1).1 in
+      let same_port : c.output.result.now ≡ p = read_port outputs_of t c.task.result.now c.args.port p c.output.result.now same_task listed c.output.ensures in
+      let P : Port → Type 0 = λ q. PartHands c.in-Compound.up c.row-row.result.part q.name c.part_hand.result in
+      part_hands m c.args.number c.row-row.result node t p c.in-Compound.up c.part_hand.result u is (subst P same_port c.part_hand.ensures);
+  flat = c.task.ensures.flat;
+}
 
 pub returns-in-Repeated : goal.returns-in-Repeated
-returns-in-Repeated c = record { hand = λ node t p at listed.
-    let m = c.args.self.now.model in
-    let sound = c.task.ensures.flat.sound in
-    let above = c.task-2.ensures.task in
-    let here = c.task.ensures.task in
-    let u = is_under m sound c.args.number c.row-row.result node t c.if-number-eq0.false c.row-row.ensures at in
-    let is : u.above ≡ tasks.Repeated c.in-Repeated.up = above_same m c.args.number c.row-row.result node above.0 t c.task-2.result.now u above.1 ∙ c.in-Repeated.is in
-    let same_task : t ≡ c.task.result.now = (one_node m c.args.number node here.0 t c.task.result.now at here.1).1 in
-    let same_port : c.output.result.now ≡ p = read_port outputs_of t c.task.result.now c.args.port p c.output.result.now same_task listed c.output.ensures in
-    let P : Port → Type 0 = λ q. BodyHands c.in-Repeated.up q.name c.body_hand.result in
-    body_hands m c.args.number c.row-row.result node t p c.in-Repeated.up c.body_hand.result u is at (subst P same_port c.body_hand.ensures);
-  flat = c.task.ensures.flat }
+returns-in-Repeated c = record {
+  hand = λ node t p at listed.
+      let m = c.args.self.now.model in
+      let sound = c.task.ensures.flat.sound in
+      let above = c.task-2.ensures.task in
+      let here = c.task.ensures.task in
+      let u = is_under m sound c.args.number c.row-row.result node t c.if-number-eq0.false c.row-row.ensures at in
+      let is : u.above ≡ tasks.Repeated c.in-Repeated.up = above_same m c.args.number c.row-row.result node above.0 t c.task-2.result.now u above.1 ∙ c.in-Repeated.is in
+      let same_task : t ≡ c.task.result.now = (one_node m c.args.number node here.0 t c.task.result.now at here.1).1 in
+      let same_port : c.output.result.now ≡ p = read_port outputs_of t c.task.result.now c.args.port p c.output.result.now same_task listed c.output.ensures in
+      let P : Port → Type 0 = λ q. BodyHands c.in-Repeated.up q.name c.body_hand.result in
+      body_hands m c.args.number c.row-row.result node t p c.in-Repeated.up c.body_hand.result u is at (subst P same_port c.body_hand.ensures);
+  flat = c.task.ensures.flat;
+}

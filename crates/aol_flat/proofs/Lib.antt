@@ -56,3 +56,4 @@ pub mod Visiting
 pub mod Totals
 pub mod Order
 pub mod Laying
+pub mod Placing

@@ -18,6 +18,7 @@ pub mod Node
 pub mod Instance
 pub mod Laid
 pub mod NodeTable
+pub mod Placed
 pub mod Targets
 pub mod Reads
 pub mod Limits

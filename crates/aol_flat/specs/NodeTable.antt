@@ -34,11 +34,11 @@ pub record IsNodeRow (m : Model) (number : ℕ) (row : NodeRow) : Type 0 where
 
 -- the node with this number is compound, and its task has a part with that number
 abbrev pub HasPart : Model → ℕ → ℕ → Type 0
-HasPart m number part = (node : Node) × (c : Compound) × IsNode m number node (tasks.Compound c) × (part < length c.parts)
+HasPart m number k = (node : Node) × (c : Compound) × IsNode m number node (tasks.Compound c) × (k < length c.parts)
 
 -- the number of the node of that part
 abbrev pub IsPartNode : Model → ℕ → ℕ → ℕ → Type 0
-IsPartNode m number part below = (node : Node) (c : Compound) → IsNode m number node (tasks.Compound c) → (t : Task) × IsNode m below (ToPart part ∷ node) t
+IsPartNode m number k below = (node : Node) (c : Compound) → IsNode m number node (tasks.Compound c) → (t : Task) × IsNode m below (ToPart k ∷ node) t
 
 -- the task of the node with this number has an input with that number
 abbrev pub HasInput : Model → ℕ → ℕ → Type 0

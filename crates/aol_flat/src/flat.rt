@@ -140,6 +140,7 @@ impl Flat {
             part: number,
             task: 0,
             around: 0,
+            instances: 0,
         }
     }
 

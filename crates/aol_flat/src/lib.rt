@@ -13,6 +13,7 @@ mod leaf;
 pub mod limits;
 mod nodes;
 mod numbers;
+mod place;
 mod refused;
 mod spot;
 mod view;

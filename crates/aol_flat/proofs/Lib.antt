@@ -57,3 +57,5 @@ pub mod Totals
 pub mod Order
 pub mod Laying
 pub mod Placing
+pub mod Stepping
+pub mod Subtrees

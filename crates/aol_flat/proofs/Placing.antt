@@ -25,7 +25,9 @@ use Rattle.aol_flat.specs.Leaves.{narrowed}
 use Rattle.aol_flat.specs.Node.{Node, ToPart, ToBody, space_around, nodes_below}
 use Rattle.aol_flat.specs.Numbered.{StandOnEarlier, number_named}
 use Rattle.aol_flat.specs.Placed.{IsReached, at_root, by_part, by_body, IsRowAmong, AreRowsAmong, IsSpotAmong, AreSpotsAmong, Placed, LeadsTo, Places, PlacesBelow, PlacesDown, LeadsToParts, PlacesParts, PlacesCopies}
+use Rattle.aol_flat.specs.NodeTables.{PlacesAll}
 use Rattle.aol_flat.specs.Saturated.{saturated}
+use Rattle.aol_flat.specs.Tasks.{main_task}
 use Rattle.aol_flat.specs.Walked.{AreBelow, nodes_in, leaves_in}
 use Rattle.aol_flat.proofs.Among.{map_among, get_among, among_get}
 use Rattle.aol_flat.proofs.Names.{slice_get-left, slice_get-right}
@@ -303,3 +305,27 @@ pub body_lower : (m : Model) (number : ℕ) (t : Task) (r : Repeated) → StandO
 body_lower m number t r earlier lt is kind j named =
     let listed : slice_get m.tasks number ≡ Some (tasks.Repeated r) = among_get m.tasks number t lt is ∙ ap Some kind in
     earlier number j (tasks.Repeated r) r.task listed (zero, (omega arith, refl)) named
+
+-- ---- all nodes
+
+module _ (m : Model) where
+  nothing_placed : (table : Table) → table.rows ≡ [] → table.spots ≡ [] → Placed m [] [] table
+  nothing_placed table rows spots = record { rows = subst (AreRowsAmong m [] 0 []) (sym rows) tt; spots = subst (AreSpotsAmong [] []) (sym spots) tt }
+
+  -- a model without its main task has none
+  pub place_no_main : (table : Table) (done : Unit {0}) → number_named m.tasks m.main ≡ None → PlacesAll m table table (Ok done)
+  place_no_main table done none rows spots =
+      let missing : main_task m ≡ None = none_from 0 m.tasks m.main none in
+      let P : Option Task → Type 0 = λ t. Placed m (nodes_below (length m.tasks) m t []) (leaves_below (length m.tasks) m t []) table in
+      let Q : List (Node × Task) → Type 0 = λ all. Placed m all (leaves_below (length m.tasks) m None []) table in
+      let R : List Leaf → Type 0 = λ all. Placed m [] all table in
+      subst P (sym missing) (subst Q (sym (no_nodes m (length m.tasks) [])) (subst R (sym (no_leaves m (length m.tasks) [])) (nothing_placed table rows spots)))
+
+  -- else they are those at and below the root
+  pub place_root : (way : Way) (s0 s1 : Table) (number : ℕ) (answer : Placing) → number_named m.tasks m.main ≡ Some number → way.around ≡ 0 → way.instances ≡ 1
+      → PlacesBelow m number way s0 s1 answer → PlacesAll m s0 s1 answer
+  place_root way s0 s1 number answer named around instances goes rows spots =
+      let f = found m.tasks m.main number named in
+      let P : Option Task → Type 0 = λ t. OnOk answer (Placed m (nodes_below (length m.tasks) m t []) (leaves_below (length m.tasks) m t []) s1) in
+      subst P (sym f.is)
+      (goes [] f.task (length m.tasks) [] [] f.at f.within (record { above = at_root refl; around = around; instances = instances }) (nothing_placed s0 rows spots))

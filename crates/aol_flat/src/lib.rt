@@ -5,6 +5,7 @@
 //! `output_value`; the laws of solutions are functions that do nothing.
 #![tactic(auto)]
 
+mod below;
 mod counts;
 mod flat;
 mod instance;
@@ -16,6 +17,7 @@ mod numbers;
 mod place;
 mod refused;
 mod spot;
+mod tables;
 mod view;
 mod visit;
 mod walk;

@@ -59,3 +59,5 @@ pub mod Laying
 pub mod Placing
 pub mod Stepping
 pub mod Subtrees
+mod Narrow
+pub mod NodeRows

@@ -15,7 +15,7 @@ use Rattle.aol_model_types.specs.declared.task.Part.{Part}
 use Rattle.aol_model_types.specs.declared.task.Repeated.{Repeated}
 use Rattle.aol_model_types.specs.declared.task.Task.{Task}
 use Rattle.aol_model_types.specs.declared.task.Task.TheVariants as tasks
-use Rattle.aol_model_types.specs.Rules.{task_named}
+use Rattle.aol_model_types.specs.Rules.{task_name, task_named}
 use Rattle.aol_flat.specs.declared.nodes.LeafSpot.{LeafSpot}
 use Rattle.aol_flat.specs.declared.nodes.NodeRow.{NodeRow}
 use Rattle.aol_flat.specs.declared.place.Table.{Table}
@@ -32,7 +32,7 @@ use Rattle.aol_flat.specs.Walked.{AreBelow, nodes_in, leaves_in}
 use Rattle.aol_flat.proofs.Among.{map_among, get_among, among_get}
 use Rattle.aol_flat.proofs.Names.{slice_get-left, slice_get-right}
 use Rattle.aol_flat.proofs.Saturation.{saturated-mul}
-use Rattle.aol_flat.proofs.TaskNumbers.{found, none_from}
+use Rattle.aol_flat.proofs.TaskNumbers.{found, first_of_own, none_from}
 use Rattle.aol_flat.proofs.Visiting.{numbered_more, nodes_under, leaves_under, nodes_split, leaves_split, listed_task, no_nodes, no_leaves}
 
 -- what filling the table answers
@@ -51,7 +51,7 @@ rows_more m ns more k [] [] h = tt
 rows_more m ns more k [] (row ∷ rows) h = elim h [ ]
 rows_more m ns more k (x ∷ xs) [] h = elim h [ ]
 rows_more m ns more k (x ∷ xs) (row ∷ rows) h =
-    (record { listed = h.0.listed; around = h.0.around; instances = h.0.instances; above = reached_more ns more k row.up row.part x.0 h.0.above }, rows_more m ns more (k + 1) xs rows h.1)
+    (record { listed = h.0.listed; first = h.0.first; around = h.0.around; instances = h.0.instances; above = reached_more ns more k row.up row.part x.0 h.0.above }, rows_more m ns more (k + 1) xs rows h.1)
 
 spots_more : (ns more : List (Node × Task)) (ls : List Leaf) (spots : List LeafSpot) → AreSpotsAmong ns ls spots → AreSpotsAmong (ns ++ more) ls spots
 spots_more ns more [] [] h = tt
@@ -92,13 +92,14 @@ module _ (m : Model) where
   -- the row of a node
   pub row_there : (ns : List (Node × Task)) (ls : List Leaf) (node : Node) (t : Task) (number : ℕ) (way : Way) (old new : Table)
       → new.rows ≡ old.rows ++ record { up = way.up; part = way.part; task = number; around = way.around; instances = way.instances } ∷ [] → new.spots ≡ old.spots
-      → slice_get m.tasks number ≡ Some t → LeadsTo ns node way → Placed m ns ls old → Placed m (ns ++ (node, t) ∷ []) ls new
-  row_there ns ls node t number way old new rows spots listed leads placed =
+      → slice_get m.tasks number ≡ Some t → number_named m.tasks (task_name t) ≡ Some number → LeadsTo ns node way → Placed m ns ls old → Placed m (ns ++ (node, t) ∷ []) ls new
+  row_there ns ls node t number way old new rows spots listed first leads placed =
       let row : NodeRow = record { up = way.up; part = way.part; task = number; around = way.around; instances = way.instances } in
       let all : List (Node × Task) = ns ++ (node, t) ∷ [] in
       let none : length ns ≡ 0 + length ns = omega arith in
       let is : IsRowAmong m all (length ns) (node, t) row = record {
         listed = listed;
+        first = first;
         around = leads.around;
         instances = leads.instances;
         above = reached_more ns ((node, t) ∷ []) (length ns) way.up way.part node leads.above;
@@ -143,8 +144,8 @@ module _ (m : Model) where
   pub place_first : (number : ℕ) (task : Task) (way : Way) (s0 s1 s2 : Table) (spot : ℕ) (answer : Placing) → task ≡ get_or m.tasks number task → spot ≡ narrowed (length s0.rows)
       → s1.rows ≡ s0.rows ++ record { up = way.up; part = way.part; task = number; around = way.around; instances = way.instances } ∷ [] → s1.spots ≡ s0.spots
       → PlacesUnder task number spot way s1 s2 answer → PlacesBelow m number way s0 s2 answer
-  place_first number task way s0 s1 s2 spot answer is counted rows spots under node t zero ns ls listed low leads placed = absurd (omega (arith, low))
-  place_first number task way s0 s1 s2 spot answer is counted rows spots under node t (suc fuel) ns ls listed low leads placed =
+  place_first number task way s0 s1 s2 spot answer is counted rows spots under node t zero ns ls listed first low leads placed = absurd (omega (arith, low))
+  place_first number task way s0 s1 s2 spot answer is counted rows spots under node t (suc fuel) ns ls listed first low leads placed =
       let same_task : t ≡ task = listed_task m.tasks number t task listed is in
       let here : slice_get m.tasks number ≡ Some task = listed ∙ ap Some same_task in
       let many : length s0.rows ≡ length ns = length_rows m ns 0 ns s0.rows placed.rows in
@@ -154,7 +155,7 @@ module _ (m : Model) where
       let U : List Leaf → Type 0 = λ below. OnOk answer (Placed m (ns ++ ((node, task) ∷ nodes_under fuel m task node)) (ls ++ below) s2) in
       subst R (sym same_task) (subst S (sym (nodes_split fuel m task node)) (subst U (sym (leaves_split fuel m task node))
       (subst Q (append_assoc ns ((node, task) ∷ []) (nodes_under fuel m task node))
-      (under node fuel ns ls here (omega (arith, low)) (counted ∙ ap narrowed many) leads (row_there ns ls node task number way s0 s1 rows spots here leads placed)))))
+      (under node fuel ns ls here (omega (arith, low)) (counted ∙ ap narrowed many) leads (row_there ns ls node task number way s0 s1 rows spots here (ap (λ u. number_named m.tasks (task_name u)) (sym same_task) ∙ first) leads placed)))))
 
   -- below an elementary task: its leaf
   pub place_elementary : (e : _) (number spot : ℕ) (way : Way) (s1 s2 : Table) (answer : Placing)
@@ -226,7 +227,7 @@ module _ (m : Model) where
   place_found name way s0 s1 number answer named goes node fuel ns ls low leads placed =
       let f = found m.tasks name number named in
       let P : Option Task → Type 0 = λ t. OnOk answer (Placed m (ns ++ nodes_below fuel m t node) (ls ++ leaves_below fuel m t node) s1) in
-      subst P (sym f.is) (goes node f.task fuel ns ls f.at (low number named) leads placed)
+      subst P (sym f.is) (goes node f.task fuel ns ls f.at (first_of_own m.tasks name number named) (low number named) leads placed)
 
 -- ---- the parts of a compound task
 
@@ -328,4 +329,4 @@ module _ (m : Model) where
       let f = found m.tasks m.main number named in
       let P : Option Task → Type 0 = λ t. OnOk answer (Placed m (nodes_below (length m.tasks) m t []) (leaves_below (length m.tasks) m t []) s1) in
       subst P (sym f.is)
-      (goes [] f.task (length m.tasks) [] [] f.at f.within (record { above = at_root refl; around = around; instances = instances }) (nothing_placed s0 rows spots))
+      (goes [] f.task (length m.tasks) [] [] f.at (first_of_own m.tasks m.main number named) f.within (record { above = at_root refl; around = around; instances = instances }) (nothing_placed s0 rows spots))

@@ -10,7 +10,7 @@ use Rattle.aol_model_types.specs.declared.task.Repeated.{Repeated}
 use Rattle.aol_model_types.specs.declared.task.Task.{Task}
 use Rattle.aol_model_types.specs.declared.task.Task.TheVariants as tasks
 use Rattle.aol_model_types.specs.Rules.{task_named}
-use Rattle.aol_flat.specs.Below.{AreCounts, IsCountable, IsCountNamed, step_to, IsStepped, AreStepsIn, IsSteppedUnder, AreStepsUnder, AreStepsBefore, AreSteps}
+use Rattle.aol_flat.specs.Below.{AreCounts, IsCountable, IsCountNamed, step_to, IsStepAt, IsStepped, AreStepsIn, IsSteppedUnder, AreStepsUnder, AreStepsBefore, AreSteps}
 use Rattle.aol_flat.specs.declared.below.Steps.{Steps}
 use Rattle.aol_flat.specs.Leaves.{narrowed}
 use Rattle.aol_flat.specs.Node.{Node, ToPart, ToBody, nodes_below}
@@ -87,7 +87,7 @@ module _ (m : Model) (parts : List Part) (counts : List ℕ) where
   steps_all i own count long short front fuel node are below low =
       let s = front.stepped fuel node are below low in
       let whole : take i parts ≡ parts = take_all i parts long in
-      record { each = λ k h. s.0 k (omega (arith, h, long)); all = s.1 ∙ ap (λ ps. narrowed (1 + length (nodes_in fuel m node (enumerate_from 0 ps)))) whole }
+      record { each = λ k h. (omega (arith, front.many, long, short, h), s.0 k (omega (arith, h, long))); all = s.1 ∙ ap (λ ps. narrowed (1 + length (nodes_in fuel m node (enumerate_from 0 ps)))) whole }
 
 -- ---- a task
 
@@ -103,7 +103,7 @@ module _ (m : Model) (counts : List ℕ) where
       record {
         each = λ d k h l.
             let parts_are : c.parts ≡ d.parts = cc in
-            let P : List Part → Type 0 = λ ps. (k : ℕ) → k < length ps → get_or own k 0 ≡ step_to fuel m node ps k in
+            let P : List Part → Type 0 = λ ps. (k : ℕ) → k < length ps → IsStepAt own k (step_to fuel m node ps k) in
             subst P parts_are s.each k l;
         all = s.all ∙ omega arith;
       }
@@ -163,11 +163,11 @@ module _ (m : Model) (earlier : StandOnEarlier m.tasks) (i : ℕ) (t : Task) (li
   steps_grow k fuel j node c h at low within = go (push_cases steps own [] k (omega (arith, h, so_far.many_steps)))
     where
       go : ((k < length steps) × (get_or (steps ++ own ∷ []) k [] ≡ get_or steps k [])) ⊎ ((k ≡ length steps) × (get_or (steps ++ own ∷ []) k [] ≡ own))
-          → get_or (get_or (steps ++ own ∷ []) k []) j 0 ≡ step_to fuel m node c.parts j
-      go (inl l) = ap (λ xs. get_or xs j 0) l.1 ∙ so_far.stepped k fuel j node c (omega (arith, l.0, so_far.many_steps)) at low within
+          → IsStepAt (get_or (steps ++ own ∷ []) k []) j (step_to fuel m node c.parts j)
+      go (inl l) = subst (λ xs. IsStepAt xs j (step_to fuel m node c.parts j)) (sym l.1) (so_far.stepped k fuel j node c (omega (arith, l.0, so_far.many_steps)) at low within)
       go (inr r) =
           let is : k ≡ i = r.0 ∙ so_far.many_steps in
-          ap (λ xs. get_or xs j 0) r.1 ∙ (here fuel node (omega (arith, low, is))).each c j (sym (same_task (tasks.Compound c) k at is)) within
+          subst (λ xs. IsStepAt xs j (step_to fuel m node c.parts j)) (sym r.1) ((here fuel node (omega (arith, low, is))).each c j (sym (same_task (tasks.Compound c) k at is)) within)
 
   pub stepped_more : AreStepped m (i + 1) (counts ++ count ∷ []) (steps ++ own ∷ [])
   stepped_more = record {

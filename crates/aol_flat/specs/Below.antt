@@ -31,9 +31,13 @@ IsCountNamed m name counts count =
 abbrev pub step_to : ℕ → Model → Node → List Part → ℕ → ℕ
 step_to fuel m node parts k = narrowed (1 + length (nodes_in fuel m node (enumerate_from 0 (take k parts))))
 
+-- the steps have this one at a part
+abbrev pub IsStepAt : List ℕ → ℕ → ℕ → Type 0
+IsStepAt own k step = (k < length own) × (get_or own k 0 ≡ step)
+
 -- how far after a node with these parts each of them comes, and how many nodes there are at and below it
 pub record IsStepped (fuel : ℕ) (m : Model) (node : Node) (parts : List Part) (own : List ℕ) (count : ℕ) : Type 0 where
-  pub each : (k : ℕ) → k < length parts → get_or own k 0 ≡ step_to fuel m node parts k
+  pub each : (k : ℕ) → k < length parts → IsStepAt own k (step_to fuel m node parts k)
   pub all : count ≡ narrowed (1 + length (nodes_in fuel m node (enumerate_from 0 parts)))
 
 -- so it is for a compound task with these parts, wherever it stands
@@ -43,7 +47,7 @@ AreStepsIn m parts counts own count =
 
 -- and for a task: how many nodes there are, and where its parts come
 pub record IsSteppedUnder (fuel : ℕ) (m : Model) (node : Node) (t : Task) (own : List ℕ) (count : ℕ) : Type 0 where
-  pub each : (c : Compound) (k : ℕ) → t ≡ tasks.Compound c → k < length c.parts → get_or own k 0 ≡ step_to fuel m node c.parts k
+  pub each : (c : Compound) (k : ℕ) → t ≡ tasks.Compound c → k < length c.parts → IsStepAt own k (step_to fuel m node c.parts k)
   pub all : count ≡ narrowed (length (nodes_below (suc fuel) m (Some t) node))
 
 abbrev pub AreStepsUnder : Model → Task → List ℕ → List ℕ → ℕ → Type 0
@@ -54,7 +58,7 @@ AreStepsUnder m t counts own count =
 abbrev pub AreStepsBefore : Model → ℕ → List (List ℕ) → Type 0
 AreStepsBefore m count steps =
     (i fuel k : ℕ) (node : Node) (c : Compound) → i < count → slice_get m.tasks i ≡ Some (tasks.Compound c) → i ≤ fuel → k < length c.parts
-    → get_or (get_or steps i []) k 0 ≡ step_to fuel m node c.parts k
+    → IsStepAt (get_or steps i []) k (step_to fuel m node c.parts k)
 
 -- for each task
 abbrev pub AreSteps : Model → List (List ℕ) → Type 0

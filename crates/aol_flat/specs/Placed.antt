@@ -6,7 +6,7 @@ use Rattle.aol_shape.specs.Shape.{size}
 use Rattle.aol_model_types.specs.declared.document.Model.{Model}
 use Rattle.aol_model_types.specs.declared.task.Compound.{Compound}
 use Rattle.aol_model_types.specs.declared.task.Task.{Task}
-use Rattle.aol_model_types.specs.Rules.{task_named}
+use Rattle.aol_model_types.specs.Rules.{task_name, task_named}
 use Rattle.aol_shape.specs.declared.memory.NoMemory.{NoMemory}
 use Rattle.aol_flat.specs.declared.nodes.LeafSpot.{LeafSpot}
 use Rattle.aol_flat.specs.declared.nodes.NodeRow.{NodeRow}
@@ -29,6 +29,7 @@ pub data IsReached (ns : List (Node × Task)) (number up part : ℕ) : Node → 
 -- the row of a node with this number
 pub record IsRowAmong (m : Model) (ns : List (Node × Task)) (number : ℕ) (x : Node × Task) (row : NodeRow) : Type 0 where
   pub listed : slice_get m.tasks row.task ≡ Some x.1
+  pub first : number_named m.tasks (task_name x.1) ≡ Some row.task
   pub around : row.around ≡ narrowed (length (space_around x.0))
   pub instances : row.instances ≡ saturated (size (space_around x.0))
   pub above : IsReached ns number row.up row.part x.0
@@ -73,7 +74,7 @@ Places m ns ls more more_leaves old new result = Placed m ns ls old → OnOk res
 -- it goes on with a node with the task of this number and all that is below
 abbrev pub PlacesBelow : Model → ℕ → Way → Table → Table → Result (Unit {0}) NoMemory → Type 0
 PlacesBelow m number way old new result =
-    (node : Node) (t : Task) (fuel : ℕ) (ns : List (Node × Task)) (ls : List Leaf) → slice_get m.tasks number ≡ Some t → number < fuel → LeadsTo ns node way
+    (node : Node) (t : Task) (fuel : ℕ) (ns : List (Node × Task)) (ls : List Leaf) → slice_get m.tasks number ≡ Some t → number_named m.tasks (task_name t) ≡ Some number → number < fuel → LeadsTo ns node way
     → Places m ns ls (nodes_below fuel m (Some t) node) (leaves_below fuel m (Some t) node) old new result
 
 -- it goes on with a node with the task of this name and all that is below

@@ -61,3 +61,6 @@ pub mod Stepping
 pub mod Subtrees
 mod Narrow
 pub mod NodeRows
+mod Storing
+pub mod Firsts
+mod Standing

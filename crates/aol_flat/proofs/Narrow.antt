@@ -16,13 +16,14 @@ use Rattle.aol_model_types.specs.Types.{IsReadModel}
 use Rattle.aol_flat.specs.Instance.{Leaf, leaves_below, leaves, reshape_leaf}
 use Rattle.aol_flat.specs.Leaves.{narrowed}
 use Rattle.aol_flat.specs.Limits.{max_hierarchy, max_node_count, max_walk, max_work, own_walk, own_work, passed, first_past, IsBounded}
-use Rattle.aol_flat.specs.Node.{Node, ToPart, ToBody, space_around, nodes_below, nodes}
+use Rattle.aol_flat.specs.Node.{Node, ToPart, ToBody, space_around, node_task, nodes_below, nodes}
 use Rattle.aol_flat.specs.NodeTable.{reshape_number}
 use Rattle.aol_flat.specs.Tasks.{main_task}
 use Rattle.aol_flat.specs.Walked.{nodes_in, leaves_in}
 use Rattle.aol_flat.proofs.Among.{among_append, among_flat_map, among_map, get_among}
 use Rattle.aol_flat.proofs.Inside.{number_of_member}
 use Rattle.aol_flat.proofs.Totals.{IsReadTaskOf, read_named, no_limit}
+use Rattle.aol_flat.proofs.Visiting.{part_step, body_step}
 
 -- ---- the limits at each node
 
@@ -77,42 +78,49 @@ pub record IsSmall (node : Node) : Type 0 where
   pub wide : length (space_around node) ≤ 12 * length node
   pub parts : PartsCounted node
 
+-- the task of a listed node is the one that stands there
+pub record IsListed (m : Model) (x : Node × Task) : Type 0 where
+  pub small : IsSmall x.0
+  pub task : node_task m x.0 ≡ Some x.1
+
 head_or : {X : Type 0} (y : X) (ys : List X) (x : X) → IsAmong (y ∷ ys) x → (x ≡ y) ⊎ IsAmong ys x
 head_or y ys x (zero, a) = inl a.1
 head_or y ys x (suc i, a) = inr (i, (omega (arith, a.0), a.1))
 
 module _ (m : Model) (read : IsReadModel m) where
-  small_below : (fuel : ℕ) (o : Option Task) (top : Node) → ((u : Task) → o ≡ Some u → IsReadTaskOf u) → IsSmall top → (x : Node × Task) → IsAmong (nodes_below fuel m o top) x → IsSmall x.0
-  small_below zero o top types small x a = absurd (omega (arith, a.1.0))
-  small_below (suc fuel) None top types small x a = absurd (omega (arith, a.1.0))
-  small_below (suc fuel) (Some (tasks.Elementary e)) top types small x a = go (head_or (top, tasks.Elementary e) [] x a)
+  small_below : (fuel : ℕ) (o : Option Task) (top : Node) → ((u : Task) → o ≡ Some u → IsReadTaskOf u) → IsSmall top → node_task m top ≡ o
+      → (x : Node × Task) → IsAmong (nodes_below fuel m o top) x → IsListed m x
+  small_below zero o top types small at x a = absurd (omega (arith, a.1.0))
+  small_below (suc fuel) None top types small at x a = absurd (omega (arith, a.1.0))
+  small_below (suc fuel) (Some (tasks.Elementary e)) top types small at x a = go (head_or (top, tasks.Elementary e) [] x a)
     where
-      go : (x ≡ (top, tasks.Elementary e)) ⊎ IsAmong [] x → IsSmall x.0
-      go (inl is) = subst (λ (y : Node × Task). IsSmall y.0) (sym is) small
+      go : (x ≡ (top, tasks.Elementary e)) ⊎ IsAmong [] x → IsListed m x
+      go (inl is) = subst (IsListed m) (sym is) (record { small = small; task = at })
       go (inr b) = absurd (omega (arith, b.1.0))
-  small_below (suc fuel) (Some (tasks.Compound c)) top types small x a =
+  small_below (suc fuel) (Some (tasks.Compound c)) top types small at x a =
       go (head_or (top, tasks.Compound c) (nodes_in fuel m top (enumerate_from 0 c.parts)) x a)
-      (λ k p fits b. small_below fuel (task_named m.tasks p.task) (ToPart k ∷ top) (λ u h. read_named m p.task u read h)
-      (record { wide = omega (arith, small.wide); parts = (fits, small.parts) }) x b)
+      (λ k p fits here b. small_below fuel (task_named m.tasks p.task) (ToPart k ∷ top) (λ u h. read_named m p.task u read h)
+      (record { wide = omega (arith, small.wide); parts = (fits, small.parts) }) (part_step m top c k p at here).task x b)
     where
       go : (x ≡ (top, tasks.Compound c)) ⊎ IsAmong (nodes_in fuel m top (enumerate_from 0 c.parts)) x
-          → ((k : ℕ) (p : Part) → k < 2 ^ 32 → IsAmong (nodes_below fuel m (task_named m.tasks p.task) (ToPart k ∷ top)) x → IsSmall x.0) → IsSmall x.0
-      go (inl is) later = subst (λ (y : Node × Task). IsSmall y.0) (sym is) small
+          → ((k : ℕ) (p : Part) → k < 2 ^ 32 → slice_get c.parts k ≡ Some p → IsAmong (nodes_below fuel m (task_named m.tasks p.task) (ToPart k ∷ top)) x → IsListed m x) → IsListed m x
+      go (inl is) later = subst (IsListed m) (sym is) (record { small = small; task = at })
       go (inr b) later =
           let r = among_flat_map (λ (p : ℕ × Part). nodes_below fuel m (task_named m.tasks p.1.task) (ToPart p.0 ∷ top)) (enumerate_from 0 c.parts) x b in
           let k = number_of_member c.parts 0 r.0 r.1 in
           let within : k.0 < length c.parts = slice_get_within c.parts k.0 r.0.1 k.2 in
           let count = (types (tasks.Compound c) refl).types.part_count in
-          later r.0.0 r.0.1 (omega (arith, within, count, k.1)) r.2
-  small_below (suc fuel) (Some (tasks.Repeated t)) top types small x a =
+          let same_number : k.0 ≡ r.0.0 = omega (arith, k.1) in
+          later r.0.0 r.0.1 (omega (arith, within, count, k.1)) (ap (slice_get c.parts) (sym same_number) ∙ k.2) r.2
+  small_below (suc fuel) (Some (tasks.Repeated t)) top types small at x a =
       let rank = (types (tasks.Repeated t) refl).types.space.rank in
       go (head_or (top, tasks.Repeated t) (nodes_below fuel m (task_named m.tasks t.task) (ToBody t.space ∷ top)) x a)
       (λ b. small_below fuel (task_named m.tasks t.task) (ToBody t.space ∷ top) (λ u h. read_named m t.task u read h)
-      (record { wide = omega (arith, small.wide, rank, length-append (space_around top) t.space); parts = small.parts }) x b)
+      (record { wide = omega (arith, small.wide, rank, length-append (space_around top) t.space); parts = small.parts }) (body_step m top t at).task x b)
     where
       go : (x ≡ (top, tasks.Repeated t)) ⊎ IsAmong (nodes_below fuel m (task_named m.tasks t.task) (ToBody t.space ∷ top)) x
-          → (IsAmong (nodes_below fuel m (task_named m.tasks t.task) (ToBody t.space ∷ top)) x → IsSmall x.0) → IsSmall x.0
-      go (inl is) later = subst (λ (y : Node × Task). IsSmall y.0) (sym is) small
+          → (IsAmong (nodes_below fuel m (task_named m.tasks t.task) (ToBody t.space ∷ top)) x → IsListed m x) → IsListed m x
+      go (inl is) later = subst (IsListed m) (sym is) (record { small = small; task = at })
       go (inr b) later = later b
 
   leaves_small : (fuel : ℕ) (o : Option Task) (top : Node) → ((u : Task) → o ≡ Some u → IsReadTaskOf u) → (l : Leaf) → IsAmong (leaves_below fuel m o top) l → reshape_number l.work < 2 ^ 32
@@ -138,9 +146,16 @@ module _ (m : Model) (read : IsReadModel m) where
   leaves_small (suc fuel) (Some (tasks.Repeated t)) top types l a =
       leaves_small fuel (task_named m.tasks t.task) (ToBody t.space ∷ top) (λ u h. read_named m t.task u read h) l a
 
+  listed_node : (k : ℕ) (x : Node × Task) → slice_get (nodes m) k ≡ Some x → IsListed m x
+  listed_node k x h =
+      small_below (length m.tasks) (main_task m) [] (λ u e. read_named m m.main u read e) (record { wide = omega arith; parts = tt }) refl x (get_among (nodes m) k x h)
+
   pub small_node : (k : ℕ) (x : Node × Task) → slice_get (nodes m) k ≡ Some x → IsSmall x.0
-  small_node k x h =
-      small_below (length m.tasks) (main_task m) [] (λ u e. read_named m m.main u read e) (record { wide = omega arith; parts = tt }) x (get_among (nodes m) k x h)
+  small_node k x h = (listed_node k x h).small
+
+  -- the task of a listed node
+  pub task_of_node : (k : ℕ) (x : Node × Task) → slice_get (nodes m) k ≡ Some x → node_task m x.0 ≡ Some x.1
+  task_of_node k x h = (listed_node k x h).task
 
   -- so its entries are counted
   pub few_around : (k : ℕ) (x : Node × Task) → IsBounded m → slice_get (nodes m) k ≡ Some x → narrowed (length (space_around x.0)) ≡ length (space_around x.0)

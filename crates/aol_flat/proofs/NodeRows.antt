@@ -31,7 +31,7 @@ use Rattle.aol_flat.proofs.Placing.{length_rows}
 use Rattle.aol_flat.proofs.Subtrees.{IsSubtree, subtree, part_task, named_number}
 use Rattle.aol_flat.proofs.Visiting.{numbered_more, numbered_rest, nodes_under, nodes_split}
 
-row_at : (m : Model) (ns : List (Node × Task)) (k : ℕ) (xs : List (Node × Task)) (rows : List NodeRow) (i : ℕ) (x : Node × Task) (row : NodeRow)
+pub row_at : (m : Model) (ns : List (Node × Task)) (k : ℕ) (xs : List (Node × Task)) (rows : List NodeRow) (i : ℕ) (x : Node × Task) (row : NodeRow)
     → AreRowsAmong m ns k xs rows → slice_get xs i ≡ Some x → row ≡ get_or rows i row → IsRowAmong m ns (k + i) x row
 row_at m ns k [] rows i x row h at is = cc
 row_at m ns k (y ∷ xs) [] i x row h at is = elim h [ ]
@@ -58,7 +58,7 @@ length_spots ns [] (s ∷ spots) h = elim h [ ]
 length_spots ns (l ∷ ls) [] h = elim h [ ]
 length_spots ns (l ∷ ls) (s ∷ spots) h = ap suc (length_spots ns ls spots h.1)
 
-listed_at : {X : Type 0} (xs : List X) (k : ℕ) → k < length xs → (x : X) × (slice_get xs k ≡ Some x)
+pub listed_at : {X : Type 0} (xs : List X) (k : ℕ) → k < length xs → (x : X) × (slice_get xs k ≡ Some x)
 listed_at [] k h = absurd (omega (arith, h))
 listed_at (x ∷ xs) zero h = (x, refl)
 listed_at (x ∷ xs) (suc k) h = listed_at xs k (omega (arith, h))
@@ -89,13 +89,7 @@ some-equal x y h = cc
 pub in_nodes : (m : Model) (number part : ℕ) → HasPart m number part → number < length (nodes m)
 in_nodes m number part has = slice_get_within (nodes m) number (has.0, tasks.Compound has.1) has.2
 
-module _ (m : Model) (sound : IsSound m) (bounded : IsBounded m) (tables : Tables) (are : AreNodeTables m tables) where
-  pub count_rows : length tables.rows ≡ length (nodes m)
-  count_rows = length_rows m (nodes m) 0 (nodes m) tables.rows are.rows
-
-  pub count_spots : length tables.spots ≡ length (leaves m)
-  count_spots = length_spots (nodes m) (leaves m) tables.spots are.spots
-
+module _ (m : Model) (sound : IsSound m) (bounded : IsBounded m) (rows : List NodeRow) (are : AreRowsAmong m (nodes m) 0 (nodes m) rows) where
   -- how a row's node is reached
   above_of : (number : ℕ) (row : NodeRow) (node : Node) (t : Task) → IsNode m number node t → IsReached (nodes m) number row.up row.part node → IsAbove m number row node
   above_of number row node t at (at_root is) = table.root is
@@ -112,11 +106,11 @@ module _ (m : Model) (sound : IsSound m) (bounded : IsBounded m) (tables : Table
       table.body (omega (arith, same_up, low)) (ap (slice_get (nodes m)) same_up ∙ above)
 
   -- the row of a number
-  pub node_row : (number : ℕ) (row : NodeRow) → number < length (nodes m) → row ≡ get_or tables.rows number row → IsNodeRow m number row
+  pub node_row : (number : ℕ) (row : NodeRow) → number < length (nodes m) → row ≡ get_or rows number row → IsNodeRow m number row
   node_row number row lt is =
       let x = listed_at (nodes m) number lt in
       let none : 0 + number ≡ number = omega arith in
-      let r : IsRowAmong m (nodes m) number x.0 row = subst (λ n. IsRowAmong m (nodes m) n x.0 row) none (row_at m (nodes m) 0 (nodes m) tables.rows number x.0 row are.rows x.1 is) in
+      let r : IsRowAmong m (nodes m) number x.0 row = subst (λ n. IsRowAmong m (nodes m) n x.0 row) none (row_at m (nodes m) 0 (nodes m) rows number x.0 row are x.1 is) in
       record {
         node = x.0.0;
         task = x.0.1;
@@ -125,6 +119,13 @@ module _ (m : Model) (sound : IsSound m) (bounded : IsBounded m) (tables : Table
         around = r.around ∙ few_around m sound.read number x.0 bounded x.1;
         above = above_of number row x.0.0 x.0.1 x.1 r.above;
       }
+
+module _ (m : Model) (sound : IsSound m) (bounded : IsBounded m) (tables : Tables) (are : AreNodeTables m tables) where
+  pub count_rows : length tables.rows ≡ length (nodes m)
+  count_rows = length_rows m (nodes m) 0 (nodes m) tables.rows are.rows
+
+  pub count_spots : length tables.spots ≡ length (leaves m)
+  count_spots = length_spots (nodes m) (leaves m) tables.spots are.spots
 
   -- the place of a leaf
   pub leaf_spot : (number : ℕ) (spot : LeafSpot) → number < length (leaves m) → spot ≡ get_or tables.spots number spot → IsLeafSpot m number spot

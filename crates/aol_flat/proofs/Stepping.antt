@@ -22,7 +22,7 @@ use Rattle.aol_flat.proofs.Visiting.{numbered_more, no_nodes}
 
 -- ---- one more at the end
 
-push_cases : {X : Type 0} (xs : List X) (y d : X) (k : ℕ) → k < length xs + 1
+pub push_cases : {X : Type 0} (xs : List X) (y d : X) (k : ℕ) → k < length xs + 1
     → ((k < length xs) × (get_or (xs ++ y ∷ []) k d ≡ get_or xs k d)) ⊎ ((k ≡ length xs) × (get_or (xs ++ y ∷ []) k d ≡ y))
 push_cases [] y d zero h = inr (refl, refl)
 push_cases [] y d (suc k) h = absurd (omega (arith, h))

@@ -198,7 +198,7 @@ module _ (m : Model) (read : IsReadModel m) where
 
 -- ---- the instances
 
-length-numbers : (from n : ℕ) → length (numbers_from from n) ≡ n
+pub length-numbers : (from n : ℕ) → length (numbers_from from n) ≡ n
 length-numbers from zero = refl
 length-numbers from (suc n) = ap suc (length-numbers (from + 1) n)
 

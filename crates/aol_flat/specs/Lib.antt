@@ -21,6 +21,8 @@ pub mod Laid
 pub mod NodeTable
 pub mod Placed
 pub mod Below
+pub mod Stored
+pub mod Cells
 pub mod Targets
 pub mod Reads
 pub mod Limits

@@ -6,6 +6,7 @@
 #![tactic(auto)]
 
 mod below;
+mod cells;
 mod counts;
 mod flat;
 mod instance;
@@ -17,6 +18,7 @@ mod numbers;
 mod place;
 mod refused;
 mod spot;
+mod stores;
 mod tables;
 mod view;
 mod visit;

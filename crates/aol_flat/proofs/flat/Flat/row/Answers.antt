@@ -25,4 +25,4 @@ returns c =
     let is : row ≡ get_or f.tables.rows c.args.number row = get_or-any f.tables.rows c.args.number none row (omega (arith, many, within)) in
     let here : row ≡ get_or c.as_slice.result.now c.args.number none = ap (λ rows. get_or rows c.args.number none) (sym c.as_slice.ensures) in
     subst (IsNodeRow c.args.self.now.model c.args.number) here
-    (subst (λ (laid : Laid). IsNodeRow laid.model c.args.number row) c.self.view_is (node_row f.model t.sound t.limits f.tables t.nodes_are c.args.number row within is))
+    (subst (λ (laid : Laid). IsNodeRow laid.model c.args.number row) c.self.view_is (node_row f.model t.sound t.limits f.tables.rows t.nodes_are.rows c.args.number row within is))

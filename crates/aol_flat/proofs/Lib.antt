@@ -64,3 +64,4 @@ pub mod NodeRows
 mod Storing
 pub mod Firsts
 mod Standing
+pub mod CellTable

@@ -49,7 +49,7 @@ within depth n w k h = go (nat_lt max_hierarchy depth) (nat_lt max_node_count n)
     go false false true d e h = cc
     go false false false d e h = grind (arith, nat_tests)
 
-walk_within : (n w k : ℕ) (ns : List (Node × Task)) → w ≤ max_walk → first_past n w k ns ≡ None → w + walk_of ns ≤ max_walk
+pub walk_within : (n w k : ℕ) (ns : List (Node × Task)) → w ≤ max_walk → first_past n w k ns ≡ None → w + walk_of ns ≤ max_walk
 walk_within n w k [] few h = omega arith
 walk_within n w k ((node, t) ∷ rest) few h =
     let w' : ℕ = w + own_walk t * size (space_around node) in

@@ -5,6 +5,7 @@ use Rattle.aol_model_types.specs.declared.document.Model.{Model}
 use Rattle.aol_flat.specs.declared.place.Table.{Table}
 use Rattle.aol_flat.specs.declared.tables.Tables.{Tables}
 use Rattle.aol_flat.specs.Below.{AreSteps}
+use Rattle.aol_flat.specs.Cells.{AreCells}
 use Rattle.aol_flat.specs.Instance.{leaves}
 use Rattle.aol_flat.specs.Node.{nodes}
 use Rattle.aol_flat.specs.Placed.{AreRowsAmong, AreSpotsAmong, Placed}
@@ -18,3 +19,4 @@ pub record AreNodeTables (m : Model) (tables : Tables) : Type 0 where
   pub rows : AreRowsAmong m (nodes m) 0 (nodes m) tables.rows
   pub spots : AreSpotsAmong (nodes m) (leaves m) tables.spots
   pub steps : AreSteps m tables.steps
+  pub cells : AreCells m tables.cells

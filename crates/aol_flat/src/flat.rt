@@ -143,6 +143,13 @@ impl Flat {
         self.instances
     }
 
+    /// How many cells there are.
+    pub fn cells(&self) -> u32
+        ensures { result ≡ length self.now.cells }
+    {
+        narrowed(self.tables.cells.count)
+    }
+
     /// The row of the node with this number.
     pub(crate) fn row(&self, number: u32) -> NodeRow
         requires { number < length (nodes self.now.model) }
@@ -166,7 +173,8 @@ impl Flat {
         requires { HasInput self.now.model number port }
         ensures { IsFirstOfInput self.now.model number port result }
     {
-        number.min(port)
+        let begins = self.tables.cells.begins.as_slice()[number as usize];
+        self.tables.cells.firsts.as_slice()[begins.ins + port as usize]
     }
 
     /// The cell at which the array at output `port` of a node begins, where it is stored.
@@ -174,7 +182,8 @@ impl Flat {
         requires { HasOutput self.now.model number port }
         ensures { IsFirstOfOutput self.now.model number port result }
     {
-        number.min(port)
+        let begins = self.tables.cells.begins.as_slice()[number as usize];
+        self.tables.cells.firsts.as_slice()[begins.outs + port as usize]
     }
 
     /// Where the leaf with this number stands.

@@ -71,3 +71,12 @@ pub mod InputFeeds
 pub mod Inward
 pub mod Linked
 pub mod FirstOnes
+pub mod Placing
+pub mod Stepping
+pub mod Subtrees
+mod Narrow
+pub mod NodeRows
+mod Storing
+pub mod Firsts
+mod Standing
+pub mod CellTable

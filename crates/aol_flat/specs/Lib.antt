@@ -10,6 +10,7 @@ pub mod Counted
 pub mod Numbered
 pub mod Leaves
 pub mod Walked
+pub mod NodeTables
 pub mod Tables
 pub mod ElementaryMain
 pub mod Printed
@@ -18,6 +19,10 @@ pub mod Node
 pub mod Instance
 pub mod Laid
 pub mod NodeTable
+pub mod Placed
+pub mod Below
+pub mod Stored
+pub mod Cells
 pub mod Targets
 pub mod Reads
 pub mod Limits

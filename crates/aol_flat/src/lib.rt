@@ -5,6 +5,8 @@
 //! `output_value`; the laws of solutions are functions that do nothing.
 #![tactic(auto)]
 
+mod below;
+mod cells;
 mod counts;
 mod cursor;
 mod feed;
@@ -16,8 +18,11 @@ mod leaf;
 pub mod limits;
 mod nodes;
 mod numbers;
+mod place;
 mod refused;
 mod spot;
+mod stores;
+mod tables;
 mod view;
 mod visit;
 mod walk;

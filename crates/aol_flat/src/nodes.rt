@@ -11,6 +11,8 @@ pub struct NodeRow {
     pub task: u32,
     /// How many entries the spaces of all repetitions around the node have.
     pub around: u32,
+    /// How many points these spaces have, which are the instances of the node.
+    pub instances: u64,
 }
 
 /// Where a leaf stands: the number of its node, and the number of its reshape; 0 for an elementary leaf.

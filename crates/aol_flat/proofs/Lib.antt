@@ -65,3 +65,4 @@ mod Storing
 pub mod Firsts
 mod Standing
 pub mod CellTable
+pub mod Crossing

@@ -1,3 +1,4 @@
+use crate::flat::Flat;
 use crate::leaf::{Leaf, LeafKind};
 use crate::view::{End, Read, Reader, Writer};
 
@@ -5,6 +6,7 @@ fn is_shared<T: Send + Sync>() {}
 
 /// The types of this crate can be sent to threads and shared among them.
 pub fn types_are_shared() {
+    is_shared::<Flat>();
     is_shared::<Leaf>();
     is_shared::<LeafKind>();
     is_shared::<Read>();

@@ -1,6 +1,6 @@
 -- What the table of first cells answers.
 use Rattle.std.proofs.Common.{◌≡◌, ℕ, zero, suc, ◌+◌, ◌-◌, ◌*◌, ◌<◌, ◌≤◌, Bool, true, false, cond, List, [], ◌∷◌, ◌++◌, length, map, filter, flat_map, sum_by, take, drop, get_or, Option, Some, None, slice_get, unwrap_or, option_map, sym, ◌∙◌, ap, refl, arith, subst}
-use Rattle.std.proofs.lemmas.List.{append-nil, append_assoc, length-append, length-map}
+use Rattle.std.proofs.lemmas.List.{append_assoc, length-append, length-map}
 use Rattle.std.proofs.lemmas.List.Sums.{sum_by-cons}
 use Rattle.std.proofs.lemmas.Grind.{flat_map-append}
 use Rattle.std.proofs.lemmas.Option.{slice_get_within}
@@ -14,22 +14,20 @@ use Rattle.aol_model_types.specs.Rules.{inputs_of, outputs_of}
 use Rattle.aol_flat.specs.declared.cells.Begins.{Begins}
 use Rattle.aol_flat.specs.declared.cells.Cells.{Cells}
 use Rattle.aol_flat.specs.declared.nodes.NodeRow.{NodeRow}
-use Rattle.aol_flat.specs.Accept.{IsSound}
-use Rattle.aol_flat.specs.Cells.{NodePort, cells_at, ports_on, ports_at, AreFirsts, begins_after, AreCells}
+use Rattle.aol_flat.specs.Cells.{NodePort, cells_at, ports_on, ports_at, begins_after, AreCells}
 use Rattle.aol_flat.specs.Laid.{main_input_elements, main_output_elements, cell_at, port_cells, inner_cells, homes_of}
 use Rattle.aol_flat.specs.Leaves.{narrowed}
 use Rattle.aol_flat.specs.Limits.{max_walk, copies_of, own_walk, IsBounded}
 use Rattle.aol_flat.specs.Node.{Node, Branch, space_around, nodes_below, nodes}
 use Rattle.aol_flat.specs.NodeTable.{IsNode, HasInput, HasOutput, stores_at, BeginsAt, IsFirstOfInput, IsFirstOfOutput}
 use Rattle.aol_flat.specs.Place.{Element, port_elements, elements_of}
-use Rattle.aol_flat.specs.Placed.{IsReached, at_root, by_part, by_body, AreRowsAmong}
-use Rattle.aol_flat.specs.Saturated.{saturated}
+use Rattle.aol_flat.specs.Placed.{IsReached, at_root, AreRowsAmong}
 use Rattle.aol_flat.specs.Tasks.{main_task}
 use Rattle.aol_flat.proofs.Firsts.{length-port_cells}
 use Rattle.aol_flat.proofs.Names.{slice_get-left, slice_get-right}
 use Rattle.aol_flat.proofs.NodeRows.{listed_at, some-equal}
 use Rattle.aol_flat.proofs.Subtrees.{named_number}
-use Rattle.aol_flat.proofs.Totals.{walk_of, walk_within, length-numbers}
+use Rattle.aol_flat.proofs.Totals.{walk_of, walk_within}
 use Rattle.aol_flat.proofs.Visiting.{no_nodes, nodes_split, nodes_under}
 
 -- ---- the homes, port by port
@@ -275,9 +273,10 @@ module _ (m : Model) (bounded : IsBounded m) (rows : List NodeRow) (are : AreRow
     -- the first cell of an input
     pub input_within : (k : ℕ) → HasInput m number k → (number < length cells.begins) × ((get_or cells.begins number d).ins + k < length cells.firsts)
     input_within k has =
-        let p = listed_at (inputs_of has.1) k has.3 in
-        (omega (arith, many_begins, slice_get_within (nodes m) number (has.0, has.1) has.2),
-          omega (arith, t.firsts.many, slice_get_within ports ((get_or cells.begins number d).ins + k) _ (in_port has.0 has.1 k p.0 has.2 p.1)))
+        let p = listed_at (inputs_of has.1) k has.3 in (
+          omega (arith, many_begins, slice_get_within (nodes m) number (has.0, has.1) has.2),
+          omega (arith, t.firsts.many, slice_get_within ports ((get_or cells.begins number d).ins + k) _ (in_port has.0 has.1 k p.0 has.2 p.1)),
+        )
 
     pub input_first : (k : ℕ) → IsFirstOfInput m number k (get_or cells.firsts ((get_or cells.begins number d).ins + k) 0)
     input_first k node u p at h stored = begins_there ((get_or cells.begins number d).ins + k) (record { node = node; port = p; stored = stores_at m node true p.name }) (in_port node u k p at h) stored
@@ -285,9 +284,10 @@ module _ (m : Model) (bounded : IsBounded m) (rows : List NodeRow) (are : AreRow
     -- and of an output
     pub output_within : (k : ℕ) → HasOutput m number k → (number < length cells.begins) × ((get_or cells.begins number d).outs + k < length cells.firsts)
     output_within k has =
-        let p = listed_at (outputs_of has.1) k has.3 in
-        (omega (arith, many_begins, slice_get_within (nodes m) number (has.0, has.1) has.2),
-          omega (arith, t.firsts.many, slice_get_within ports ((get_or cells.begins number d).outs + k) _ (out_port has.0 has.1 k p.0 has.2 p.1)))
+        let p = listed_at (outputs_of has.1) k has.3 in (
+          omega (arith, many_begins, slice_get_within (nodes m) number (has.0, has.1) has.2),
+          omega (arith, t.firsts.many, slice_get_within ports ((get_or cells.begins number d).outs + k) _ (out_port has.0 has.1 k p.0 has.2 p.1)),
+        )
 
     pub output_first : (k : ℕ) → IsFirstOfOutput m number k (get_or cells.firsts ((get_or cells.begins number d).outs + k) 0)
     output_first k node u p at h stored = begins_there ((get_or cells.begins number d).outs + k) (record { node = node; port = p; stored = stores_at m node false p.name }) (out_port node u k p at h) stored

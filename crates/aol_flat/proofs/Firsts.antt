@@ -1,5 +1,5 @@
 -- The first cells of the ports of all nodes, port by port.
-use Rattle.std.proofs.Common.{◌≡◌, ℕ, zero, suc, ◌+◌, ◌*◌, ◌<◌, ◌≤◌, Bool, true, false, cond, List, [], ◌∷◌, ◌++◌, length, map, flat_map, take, drop, get_or, Option, Some, None, slice_get, Result, Ok, Err, OnOk, sym, ◌∙◌, ap, refl, arith, subst, ◌⊎◌, inl, inr, add-one}
+use Rattle.std.proofs.Common.{◌≡◌, ℕ, zero, suc, ◌+◌, ◌*◌, ◌<◌, ◌≤◌, Bool, true, false, cond, List, [], ◌∷◌, ◌++◌, length, map, flat_map, take, get_or, Result, Ok, sym, ◌∙◌, ap, refl, arith, subst, ◌⊎◌, inl, inr, add-one}
 use Rattle.std.proofs.lemmas.List.{append-nil, append_assoc, length-append, length-map, map-append}
 use Rattle.std.proofs.lemmas.Grind.{flat_map-append}
 use Rattle.std.proofs.Math.Seq.{take-suc}
@@ -8,17 +8,13 @@ use Rattle.aol_shape.specs.Lists.{numbers_below}
 use Rattle.aol_shape.specs.Shape.{size, points, point_at}
 use Rattle.aol_shape.proofs.Sizes.{size_both}
 use Rattle.aol_expr_tree.specs.declared.port.Port.{Port}
-use Rattle.aol_model_types.specs.declared.document.Model.{Model}
 use Rattle.aol_model_types.specs.declared.task.Task.{Task}
 use Rattle.aol_model_types.specs.Rules.{inputs_of, outputs_of}
-use Rattle.aol_flat.specs.declared.cells.Begins.{Begins}
 use Rattle.aol_flat.specs.declared.cells.Cells.{Cells}
-use Rattle.aol_flat.specs.Cells.{NodePort, cells_at, ports_on, ports_at, AreFirsts, begins_after, AreCellsOf, PushesPorts, PushesNode}
+use Rattle.aol_flat.specs.Cells.{NodePort, cells_at, ports_on, AreFirsts, PushesPorts, PushesNode}
 use Rattle.aol_flat.specs.Laid.{port_cells, cell_at}
 use Rattle.aol_flat.specs.Leaves.{narrowed}
-use Rattle.aol_flat.specs.Node.{Node, space_around, nodes}
-use Rattle.aol_flat.specs.NodeTable.{stores_at}
-use Rattle.aol_flat.specs.Place.{Element}
+use Rattle.aol_flat.specs.Node.{Node, space_around}
 use Rattle.aol_flat.specs.Saturated.{saturated}
 use Rattle.aol_flat.specs.Stored.{stored_by}
 use Rattle.aol_flat.proofs.Saturation.{saturated-add, saturated-mul_left}
@@ -73,8 +69,10 @@ port_there ps node p stored firsts firsts' count count' instances many pushed co
   where
     last : NodePort
     last = record { node = node; port = p; stored = stored }
+
     narrow : (n m : ℕ) → n ≡ saturated m → narrowed n ≡ narrowed m
     narrow n m h = omega (arith, h)
+
     each : (k : ℕ) → ((k < length firsts) × (get_or (firsts ++ narrowed count ∷ []) k 0 ≡ get_or firsts k 0)) ⊎ ((k ≡ length firsts) × (get_or (firsts ++ narrowed count ∷ []) k 0 ≡ narrowed count))
         → get_or (firsts ++ narrowed count ∷ []) k 0 ≡ narrowed (length (flat_map cells_at (take k (ps ++ last ∷ []))))
     each k (inl l) =
@@ -121,7 +119,8 @@ node_there root above part instances t s0 s1 s2 s3 done done' ins outs ins_is in
     let between : outs ≡ length ps + length (inputs_of t) =
     outs_is ∙ (first.0.many ∙ (length-append ps (map (place true) (inputs_of t)) ∙ ap (λ n. length ps + n) (length-map (inputs_of t) (place true)))) in
     let P : List ℕ → Type 0 = λ xs. AreFirsts ((ps ++ map (place true) (inputs_of t)) ++ map (place false) (outputs_of t)) xs s3.count in
-    let Q : ℕ → Type 0 = λ n. AreFirsts ((ps ++ map (place true) (inputs_of t)) ++ map (place false) (outputs_of t)) s2.firsts n in
-    (subst (λ qs. AreFirsts qs s3.firsts s3.count) whole (subst P (sym firsts) (subst Q (sym count) second.0)),
+    let Q : ℕ → Type 0 = λ n. AreFirsts ((ps ++ map (place true) (inputs_of t)) ++ map (place false) (outputs_of t)) s2.firsts n in (
+      subst (λ qs. AreFirsts qs s3.firsts s3.count) whole (subst P (sym firsts) (subst Q (sym count) second.0)),
       begins ∙ (ap (λ bs. bs ++ record { ins = ins; outs = outs } ∷ []) (second.1 ∙ first.1)
-      ∙ (ap (λ n. s0.begins ++ record { ins = n; outs = outs } ∷ []) before ∙ ap (λ n. s0.begins ++ record { ins = length ps; outs = n } ∷ []) between)))
+          ∙ (ap (λ n. s0.begins ++ record { ins = n; outs = outs } ∷ []) before ∙ ap (λ n. s0.begins ++ record { ins = length ps; outs = n } ∷ []) between)),
+    )

@@ -80,3 +80,4 @@ mod Storing
 pub mod Firsts
 mod Standing
 pub mod CellTable
+pub mod Crossing

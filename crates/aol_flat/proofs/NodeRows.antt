@@ -1,8 +1,7 @@
 -- What the tables of nodes answer.
-use Rattle.std.proofs.Common.{◌≡◌, ℕ, zero, suc, ◌+◌, ◌<◌, ◌≤◌, List, [], ◌∷◌, ◌++◌, length, flat_map, take, drop, get_or, ◌^◌, Option, Some, None, slice_get, sym, ◌∙◌, ap, refl, arith, subst}
+use Rattle.std.proofs.Common.{◌≡◌, ℕ, zero, suc, ◌+◌, ◌<◌, ◌≤◌, List, [], ◌∷◌, ◌++◌, length, flat_map, take, drop, get_or, Some, slice_get, sym, ◌∙◌, ap, refl, arith, subst}
 use Rattle.std.specs.List.{enumerate_from}
-use Rattle.std.proofs.lemmas.List.{append_assoc, length-append}
-use Rattle.std.proofs.lemmas.Option.{slice_get_within, slice_get-get_or}
+use Rattle.std.proofs.lemmas.Option.{slice_get_within}
 use Rattle.aol_model_types.specs.declared.document.Model.{Model}
 use Rattle.aol_model_types.specs.declared.task.Compound.{Compound}
 use Rattle.aol_model_types.specs.declared.task.Part.{Part}
@@ -13,23 +12,22 @@ use Rattle.aol_flat.specs.declared.nodes.LeafSpot.{LeafSpot}
 use Rattle.aol_flat.specs.declared.nodes.NodeRow.{NodeRow}
 use Rattle.aol_flat.specs.declared.tables.Tables.{Tables}
 use Rattle.aol_flat.specs.Accept.{IsSound}
-use Rattle.aol_flat.specs.Below.{step_to}
 use Rattle.aol_flat.specs.Instance.{Leaf, leaves}
 use Rattle.aol_flat.specs.Leaves.{narrowed}
 use Rattle.aol_flat.specs.Limits.{max_node_count, IsBounded}
-use Rattle.aol_flat.specs.Node.{Node, ToPart, ToBody, space_around, nodes_below, nodes}
+use Rattle.aol_flat.specs.Node.{Node, ToPart, nodes_below, nodes}
 use Rattle.aol_flat.specs.NodeTable.{IsNode, IsAbove, IsNodeRow, HasPart, IsPartNode, IsLeafSpot, reshape_number}
 use Rattle.aol_flat.specs.NodeTable as table
 use Rattle.aol_flat.specs.NodeTables.{AreNodeTables}
 use Rattle.aol_flat.specs.Placed.{IsReached, at_root, by_part, by_body, IsRowAmong, AreRowsAmong, IsSpotAmong, AreSpotsAmong}
 use Rattle.aol_flat.specs.Walked.{nodes_in}
-use Rattle.aol_flat.proofs.Among.{among_get, get_among, map_among}
+use Rattle.aol_flat.proofs.Among.{get_among, map_among}
 use Rattle.aol_flat.proofs.Names.{slice_get-left, slice_get-right}
-use Rattle.aol_flat.proofs.Narrow.{IsSmall, few_nodes, small_node, few_around, small_leaf}
+use Rattle.aol_flat.proofs.Narrow.{few_nodes, small_node, few_around, small_leaf}
 use Rattle.aol_flat.proofs.Order.{stand_on_earlier}
 use Rattle.aol_flat.proofs.Placing.{length_rows}
-use Rattle.aol_flat.proofs.Subtrees.{IsSubtree, subtree, part_task, named_number}
-use Rattle.aol_flat.proofs.Visiting.{numbered_more, numbered_rest, nodes_under, nodes_split}
+use Rattle.aol_flat.proofs.Subtrees.{subtree, part_task, named_number}
+use Rattle.aol_flat.proofs.Visiting.{numbered_rest, nodes_under, nodes_split}
 
 pub row_at : (m : Model) (ns : List (Node × Task)) (k : ℕ) (xs : List (Node × Task)) (rows : List NodeRow) (i : ℕ) (x : Node × Task) (row : NodeRow)
     → AreRowsAmong m ns k xs rows → slice_get xs i ≡ Some x → row ≡ get_or rows i row → IsRowAmong m ns (k + i) x row
@@ -176,9 +174,11 @@ module _ (m : Model) (sound : IsSound m) (bounded : IsBounded m) (tables : Table
       ∙ slice_get-right front (((ToPart k ∷ node, u.0) ∷ nodes_under d m u.0 (ToPart k ∷ node)) ++ later) 0) in
       let whole : List (Node × Task) = nodes_below (suc (suc d)) m (Some (tasks.Compound c)) node in
       let found_whole : slice_get (whole ++ after) (suc (length front)) ≡ Some child = slice_get-left whole after (suc (length front)) child found_inside in
-      let far : number + (1 + length front) ≡ length before + suc (length front) = omega (arith, count) in
-      (u.0, ap (λ xs. slice_get xs (number + (1 + length front))) split
-      ∙ (ap (slice_get (before ++ (whole ++ after))) far ∙ (slice_get-right before (whole ++ after) (suc (length front)) ∙ found_whole)))
+      let far : number + (1 + length front) ≡ length before + suc (length front) = omega (arith, count) in (
+        u.0,
+        ap (λ xs. slice_get xs (number + (1 + length front))) split
+            ∙ (ap (slice_get (before ++ (whole ++ after))) far ∙ (slice_get-right before (whole ++ after) (suc (length front)) ∙ found_whole)),
+      )
 
   -- the row's task has steps, with one for each part
   pub task_steps : (number : ℕ) (row : NodeRow) → number < length (nodes m) → row ≡ get_or tables.rows number row → row.task < length tables.steps

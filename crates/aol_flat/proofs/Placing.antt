@@ -1,11 +1,10 @@
 -- The table of nodes goes on over a node: first its own row, then those below it, then the places of its reshapes.
-use Rattle.std.proofs.Common.{◌≡◌, ℕ, zero, suc, ◌+◌, ◌*◌, ◌<◌, ◌≤◌, List, [], ◌∷◌, ◌++◌, length, map, flat_map, take, get_or, Option, Some, None, slice_get, Result, Ok, Err, OnOk, sym, ◌∙◌, ap, refl, arith, subst}
-use Rattle.std.specs.List.{IsAmong, enumerate_from}
+use Rattle.std.proofs.Common.{◌≡◌, ℕ, zero, suc, ◌+◌, ◌*◌, ◌<◌, ◌≤◌, List, [], ◌∷◌, ◌++◌, length, map, take, get_or, Option, Some, None, slice_get, Result, Ok, Err, OnOk, sym, ◌∙◌, ap, refl, arith, subst}
+use Rattle.std.specs.List.{enumerate_from}
 use Rattle.std.proofs.lemmas.List.{append-nil, append_assoc, length-append, take_all, map-append}
 use Rattle.std.proofs.lemmas.Option.{slice_get_within}
 use Rattle.aol_shape.specs.Lists.{numbers_from, numbers_below}
 use Rattle.aol_shape.specs.Shape.{size}
-use Rattle.aol_shape.proofs.Points.{size-append}
 use Rattle.aol_shape.proofs.Sizes.{size_both}
 use Rattle.aol_shape.specs.declared.memory.NoMemory.{NoMemory}
 use Rattle.aol_model_types.specs.declared.document.Model.{Model}
@@ -20,11 +19,11 @@ use Rattle.aol_flat.specs.declared.nodes.LeafSpot.{LeafSpot}
 use Rattle.aol_flat.specs.declared.nodes.NodeRow.{NodeRow}
 use Rattle.aol_flat.specs.declared.place.Table.{Table}
 use Rattle.aol_flat.specs.declared.place.Way.{Way}
-use Rattle.aol_flat.specs.Instance.{Leaf, Computes, Copies, leaves_below, reshape_leaf}
+use Rattle.aol_flat.specs.Instance.{Leaf, leaves_below, reshape_leaf}
 use Rattle.aol_flat.specs.Leaves.{narrowed}
 use Rattle.aol_flat.specs.Node.{Node, ToPart, ToBody, space_around, nodes_below}
 use Rattle.aol_flat.specs.Numbered.{StandOnEarlier, number_named}
-use Rattle.aol_flat.specs.Placed.{IsReached, at_root, by_part, by_body, IsRowAmong, AreRowsAmong, IsSpotAmong, AreSpotsAmong, Placed, LeadsTo, Places, PlacesBelow, PlacesDown, LeadsToParts, PlacesParts, PlacesCopies}
+use Rattle.aol_flat.specs.Placed.{IsReached, at_root, by_part, by_body, IsRowAmong, AreRowsAmong, AreSpotsAmong, Placed, LeadsTo, Places, PlacesBelow, PlacesDown, LeadsToParts, PlacesParts, PlacesCopies}
 use Rattle.aol_flat.specs.NodeTables.{PlacesAll}
 use Rattle.aol_flat.specs.Saturated.{saturated}
 use Rattle.aol_flat.specs.Tasks.{main_task}

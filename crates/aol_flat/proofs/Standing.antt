@@ -1,6 +1,6 @@
 -- How a node stands in the node above, and the cells of its ports.
-use Rattle.std.proofs.Common.{◌≡◌, ◌≢◌, ℕ, zero, suc, ◌+◌, ◌<◌, ◌≤◌, Bool, true, false, List, [], ◌∷◌, ◌++◌, length, map, flat_map, take, get_or, Option, Some, None, slice_get, option_and_then, Ok, sym, ◌∙◌, ap, refl, arith, subst}
-use Rattle.std.proofs.lemmas.List.{append-nil, append_assoc, length-append}
+use Rattle.std.proofs.Common.{◌≡◌, ◌≢◌, ℕ, ◌+◌, ◌<◌, Bool, true, false, List, [], ◌∷◌, ◌++◌, length, flat_map, take, get_or, Some, slice_get, option_and_then, Ok, sym, ◌∙◌, ap, refl, arith, subst}
+use Rattle.std.proofs.lemmas.List.{append-nil, length-append}
 use Rattle.std.proofs.lemmas.Grind.{flat_map-append}
 use Rattle.std.proofs.lemmas.Option.{slice_get_within, get_or_from_slice_get}
 use Rattle.aol_shape.specs.Shape.{size}
@@ -9,17 +9,16 @@ use Rattle.aol_model_types.specs.declared.document.Model.{Model}
 use Rattle.aol_model_types.specs.declared.task.Task.{Task}
 use Rattle.aol_model_types.specs.declared.task.Task.TheVariants as tasks
 use Rattle.aol_model_types.specs.Rules.{inputs_of, outputs_of}
-use Rattle.aol_flat.specs.declared.cells.Begins.{Begins}
 use Rattle.aol_flat.specs.declared.cells.Cells.{Cells}
 use Rattle.aol_flat.specs.declared.nodes.NodeRow.{NodeRow}
 use Rattle.aol_flat.specs.Accept.{IsSound}
-use Rattle.aol_flat.specs.Cells.{NodePort, cells_at, ports_on, ports_at, AreFirsts, begins_after, AreCellsOf, IsStand, PushesNode}
+use Rattle.aol_flat.specs.Cells.{NodePort, ports_on, ports_at, AreFirsts, begins_after, AreCellsOf, IsStand, PushesNode}
 use Rattle.aol_flat.specs.Laid.{stores_input, stores_output}
 use Rattle.aol_flat.specs.Limits.{IsBounded}
-use Rattle.aol_flat.specs.Node.{Node, Branch, ToPart, ToBody, space_around, node_task, task_under, nodes}
+use Rattle.aol_flat.specs.Node.{Node, ToPart, ToBody, space_around, node_task, task_under, nodes}
 use Rattle.aol_flat.specs.NodeTable.{IsNode, IsAbove, IsNodeRow, stores_at}
 use Rattle.aol_flat.specs.NodeTable as table
-use Rattle.aol_flat.specs.Placed.{IsRowAmong, AreRowsAmong}
+use Rattle.aol_flat.specs.Placed.{AreRowsAmong}
 use Rattle.aol_flat.specs.Saturated.{saturated}
 use Rattle.aol_flat.specs.Stored.{stored_by}
 use Rattle.aol_flat.proofs.Firsts.{take_next}

@@ -1,7 +1,7 @@
 -- The nodes at and below each task are counted, and so are those that come before each part.
-use Rattle.std.proofs.Common.{◌≡◌, ℕ, zero, suc, ◌+◌, ◌<◌, ◌≤◌, List, [], ◌∷◌, ◌++◌, length, take, drop, get_or, flat_map, Option, Some, None, slice_get, Result, Ok, Err, IfOk, sym, ◌∙◌, ap, refl, arith, subst, ◌⊎◌, inl, inr}
-use Rattle.std.specs.List.{IsAmong, enumerate_from}
-use Rattle.std.proofs.lemmas.List.{append-nil, append_assoc, length-append, take_all}
+use Rattle.std.proofs.Common.{◌≡◌, ℕ, zero, suc, ◌+◌, ◌<◌, ◌≤◌, List, [], ◌∷◌, ◌++◌, length, take, get_or, Some, None, slice_get, Result, Ok, Err, IfOk, sym, ◌∙◌, ap, refl, arith, subst, ◌⊎◌, inl, inr}
+use Rattle.std.specs.List.{enumerate_from}
+use Rattle.std.proofs.lemmas.List.{length-append, take_all}
 use Rattle.aol_shape.specs.declared.memory.NoMemory.{NoMemory}
 use Rattle.aol_model_types.specs.declared.document.Model.{Model}
 use Rattle.aol_model_types.specs.declared.task.Compound.{Compound}
@@ -10,13 +10,13 @@ use Rattle.aol_model_types.specs.declared.task.Repeated.{Repeated}
 use Rattle.aol_model_types.specs.declared.task.Task.{Task}
 use Rattle.aol_model_types.specs.declared.task.Task.TheVariants as tasks
 use Rattle.aol_model_types.specs.Rules.{task_named}
-use Rattle.aol_flat.specs.Below.{AreCounts, IsCountable, IsCountNamed, step_to, IsStepAt, IsStepped, AreStepsIn, IsSteppedUnder, AreStepsUnder, AreStepsBefore, AreSteps}
+use Rattle.aol_flat.specs.Below.{AreCounts, IsCountNamed, step_to, IsStepAt, AreStepsIn, IsSteppedUnder, AreStepsUnder, AreStepsBefore, AreSteps}
 use Rattle.aol_flat.specs.declared.below.Steps.{Steps}
 use Rattle.aol_flat.specs.Leaves.{narrowed}
 use Rattle.aol_flat.specs.Node.{Node, ToPart, ToBody, nodes_below}
-use Rattle.aol_flat.specs.Numbered.{StandOnEarlier, number_named, inner_names}
+use Rattle.aol_flat.specs.Numbered.{StandOnEarlier, number_named}
 use Rattle.aol_flat.specs.Walked.{AreBelow, nodes_in}
-use Rattle.aol_flat.proofs.Among.{map_among, get_among, among_get}
+use Rattle.aol_flat.proofs.Among.{map_among, get_among}
 use Rattle.aol_flat.proofs.TaskNumbers.{found, none_from}
 use Rattle.aol_flat.proofs.Visiting.{numbered_more, no_nodes}
 
@@ -141,7 +141,7 @@ stepped_none m counts steps none nothing = record {
 }
 
 module _ (m : Model) (earlier : StandOnEarlier m.tasks) (i : ℕ) (t : Task) (listed : slice_get m.tasks i ≡ Some t) (counts : List ℕ) (steps : List (List ℕ)) (own : List ℕ) (count : ℕ)
-  (so_far : AreStepped m i counts steps) (under : AreStepsUnder m t counts own count) where
+    (so_far : AreStepped m i counts steps) (under : AreStepsUnder m t counts own count) where
   here : (fuel : ℕ) (node : Node) → i ≤ fuel → IsSteppedUnder fuel m node t own count
   here fuel node low = under fuel node so_far.counted (λ name among j named. let less = earlier i j t name listed among named in (omega (arith, less, low), omega (arith, less, so_far.many_counts)))
 

@@ -1,5 +1,5 @@
 -- The number of a part against its name, and links that are looked for.
-use Rattle.std.proofs.Common.{◌≡◌, ℕ, zero, suc, ◌+◌, ◌<◌, ◌≤◌, Bool, true, false, not, cond, ◌&&◌, nat_eq, List, [], ◌∷◌, length, take, drop, get_or, sym, ◌∙◌, ap, refl, arith}
+use Rattle.std.proofs.Common.{◌≡◌, ℕ, zero, suc, ◌+◌, ◌<◌, ◌≤◌, Bool, true, false, not, ◌&&◌, nat_eq, List, [], ◌∷◌, length, take, get_or, sym, ◌∙◌, ap, refl, arith}
 use Rattle.std.specs.List.{list_any, position_or_len}
 use Rattle.std.proofs.lemmas.Bool.Decides.{nat_tests}
 
@@ -22,8 +22,10 @@ numbered_there test (x ∷ xs) (suc k) d h = go (test x) refl (numbered_there te
     both_false : (b : Bool) → (b && false) ≡ false
     both_false true = refl
     both_false false = refl
+
     zero_not : (k : ℕ) → nat_eq 0 (suc k) ≡ false
     zero_not k = grind (arith, nat_tests)
+
     go : (b : Bool) → test x ≡ b → nat_eq (position_or_len test xs) k ≡ (test (get_or xs k d) && not (list_any test (take k xs)))
         → nat_eq (position_or_len test (x ∷ xs)) (suc k) ≡ (test (get_or xs k d) && not (list_any test (x ∷ take k xs)))
     go true e later = rw e (zero_not k ∙ sym (both_false (test (get_or xs k d))))
@@ -36,8 +38,10 @@ numbered_past test [] k h = go k
     and_true : (b : Bool) → b ≡ (b && true)
     and_true true = refl
     and_true false = refl
+
     flip : (k : ℕ) → nat_eq 0 k ≡ nat_eq k 0
     flip k = grind (arith, nat_tests)
+
     go : (k : ℕ) → nat_eq 0 k ≡ (nat_eq k 0 && true)
     go k = flip k ∙ and_true (nat_eq k 0)
 numbered_past test (x ∷ xs) zero h = absurd (omega (arith, h))
@@ -46,8 +50,10 @@ numbered_past test (x ∷ xs) (suc k) h = go (test x) refl (numbered_past test x
     both_false : (b : Bool) → (b && false) ≡ false
     both_false true = refl
     both_false false = refl
+
     zero_not : nat_eq 0 (suc k) ≡ false
     zero_not = grind (arith, nat_tests)
+
     go : (b : Bool) → test x ≡ b → nat_eq (position_or_len test xs) k ≡ (nat_eq k (length xs) && not (list_any test xs))
         → nat_eq (position_or_len test (x ∷ xs)) (suc k) ≡ (nat_eq (suc k) (suc (length xs)) && not (list_any test (x ∷ xs)))
     go true e later = rw e (zero_not ∙ sym (both_false (nat_eq (suc k) (suc (length xs)))))

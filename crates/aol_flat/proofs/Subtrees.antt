@@ -1,14 +1,12 @@
 -- The nodes at and below a node stand side by side in the list of all nodes, so a part's node comes where they are counted.
-use Rattle.std.proofs.Common.{◌≡◌, ℕ, zero, suc, ◌+◌, ◌<◌, ◌≤◌, List, [], ◌∷◌, ◌++◌, length, take, drop, get_or, flat_map, true, Option, Some, None, slice_get, sym, ◌∙◌, ap, refl, arith, subst, ◌⊎◌, inl, inr}
+use Rattle.std.proofs.Common.{◌≡◌, ℕ, zero, suc, ◌+◌, ◌<◌, ◌≤◌, List, [], ◌∷◌, ◌++◌, length, true, Option, Some, None, slice_get, sym, ◌∙◌, ap, refl, arith, subst, ◌⊎◌, inl, inr}
 use Rattle.std.specs.List.{IsAmong, enumerate_from}
-use Rattle.std.proofs.lemmas.List.{append-nil, append_assoc, length-append, take_all}
-use Rattle.std.proofs.lemmas.Option.{slice_get_within, slice_get-get_or, get_or_from_slice_get}
-use Rattle.aol_shape.specs.Lists.{same}
+use Rattle.std.proofs.lemmas.List.{append-nil, append_assoc, length-append}
+use Rattle.std.proofs.lemmas.Option.{slice_get_within}
 use Rattle.aol_model_types.specs.declared.document.Model.{Model}
 use Rattle.aol_model_types.specs.declared.place.Key.TheVariants.{KParts}
 use Rattle.aol_model_types.specs.declared.task.Compound.{Compound}
 use Rattle.aol_model_types.specs.declared.task.Part.{Part}
-use Rattle.aol_model_types.specs.declared.task.Repeated.{Repeated}
 use Rattle.aol_model_types.specs.declared.task.Task.{Task}
 use Rattle.aol_model_types.specs.declared.task.Task.TheVariants as tasks
 use Rattle.aol_model_types.specs.Places.{to_key}
@@ -17,13 +15,13 @@ use Rattle.aol_flat.specs.Node.{Node, ToPart, ToBody, nodes_below, nodes}
 use Rattle.aol_flat.specs.Numbered.{StandOnEarlier, number_named, inner_names}
 use Rattle.aol_flat.specs.Tasks.{main_task}
 use Rattle.aol_flat.specs.Walked.{nodes_in}
-use Rattle.aol_flat.proofs.Among.{map_among, get_among, among_get}
+use Rattle.aol_flat.proofs.Among.{map_among, get_among}
 use Rattle.aol_flat.proofs.Checked.{task_numbered, named_earlier, member, of_compound}
-use Rattle.aol_flat.proofs.Names.{both-true, slice_get-left, slice_get-right}
+use Rattle.aol_flat.proofs.Names.{both-true}
 use Rattle.aol_flat.proofs.Once.{there}
 use Rattle.aol_flat.proofs.Order.{stand_on_earlier}
 use Rattle.aol_flat.proofs.TaskNumbers.{found, first_of_own, none_from}
-use Rattle.aol_flat.proofs.Visiting.{numbered_more, numbered_rest, nodes_under, nodes_split}
+use Rattle.aol_flat.proofs.Visiting.{nodes_split}
 
 -- ---- two lists side by side
 
@@ -106,8 +104,10 @@ module _ (m : Model) (earlier : StandOnEarlier m.tasks) where
     where
       first : List (Node × Task)
       first = nodes_below fuel m (task_named m.tasks p.task) (ToPart from ∷ top)
+
       rest : List (Node × Task)
       rest = nodes_in fuel m top (enumerate_from (from + 1) parts)
+
       go : (slice_get first k ≡ Some (node, t)) ⊎ ((j : ℕ) × (k ≡ length first + j) × (slice_get rest j ≡ Some (node, t)))
           → ((j : ℕ) → slice_get rest j ≡ Some (node, t) → IsSubtree m rest j node t) → IsSubtree m (first ++ rest) k node t
       go (inl l) later =

@@ -9,7 +9,7 @@ use Rattle.aol_model_types.specs.declared.task.Task.TheVariants as tasks
 use Rattle.aol_model_types.specs.Rules.{inputs_of, outputs_of}
 use Rattle.aol_flat.specs.declared.nodes.NodeRow.{NodeRow}
 use Rattle.aol_flat.specs.declared.nodes.LeafSpot.{LeafSpot}
-use Rattle.aol_flat.specs.Node.{Branch, ToPart, ToBody, Node, space_around, node_task, nodes}
+use Rattle.aol_flat.specs.Node.{ToPart, ToBody, Node, space_around, node_task, nodes}
 use Rattle.aol_flat.specs.Instance.{Leaf, Work, Computes, Copies, leaves}
 use Rattle.aol_flat.specs.Laid.{cell_at, homes_of, stores_input, stores_output}
 

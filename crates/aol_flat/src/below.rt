@@ -45,7 +45,9 @@ fn steps_in(from: Hierarchy, counts: &[u32], parts: &[Part]) -> Result<Steps, No
     let mut steps = alone(from.alloc);
     for part in parts {
         steps.own.push(steps.count)?;
-        steps.count = steps.count.saturating_add(count_named(from, counts, &part.task));
+        steps.count = steps
+            .count
+            .saturating_add(count_named(from, counts, &part.task));
     }
     Ok(steps)
 }
@@ -59,7 +61,9 @@ fn steps_under(from: Hierarchy, counts: &[u32], task: &Task) -> Result<Steps, No
         Task::Compound(task) => steps_in(from, counts, task.parts.as_slice()),
         Task::Repeated(task) => {
             let mut steps = alone(from.alloc);
-            steps.count = steps.count.saturating_add(count_named(from, counts, &task.task));
+            steps.count = steps
+                .count
+                .saturating_add(count_named(from, counts, &task.task));
             Ok(steps)
         }
     }

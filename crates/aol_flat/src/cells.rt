@@ -91,12 +91,7 @@ impl Cells {
     }
 
     /// Adds the outputs of an elementary task at a node that stands so.
-    fn push_made(
-        &mut self,
-        stand: Stand,
-        instances: u64,
-        outs: &[OutPort],
-    ) -> Result<(), NoMemory>
+    fn push_made(&mut self, stand: Stand, instances: u64, outs: &[OutPort]) -> Result<(), NoMemory>
         ensures { PushesPorts stand.entry.root stand.entry.above.now stand.entry.part false instances (map (λ (o : OutPort). o.port) outs.now) self.old self.new result }
     {
         for out in outs {

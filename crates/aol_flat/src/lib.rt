@@ -20,6 +20,7 @@ mod nodes;
 mod numbers;
 mod place;
 mod refused;
+mod shared;
 mod spot;
 mod stores;
 mod tables;
@@ -39,4 +40,5 @@ pub use laws::{
 };
 pub use leaf::{Leaf, LeafKind};
 pub use refused::FlatRefused;
+pub use shared::types_are_shared;
 pub use view::{End, Read, Reader, Writer};

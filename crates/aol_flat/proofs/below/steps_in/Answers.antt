@@ -1,4 +1,3 @@
-use Rattle.std.proofs.Common.{◌≡◌, ◌<◌, length, get_or, arith}
 use Rattle.aol_flat.proofs.Among.{among_get}
 use Rattle.aol_flat.proofs.Stepping.{steps_none, steps_more, steps_all}
 use Rattle.aol_flat.proofs.below.steps_in.Goals as goal

@@ -1,4 +1,4 @@
-use Rattle.std.proofs.Common.{◌≡◌, sym, subst}
+use Rattle.std.proofs.Common.{sym, subst}
 use Rattle.aol_model_types.specs.declared.task.Task.{Task}
 use Rattle.aol_flat.specs.Below.{AreStepsUnder}
 use Rattle.aol_flat.proofs.Stepping.{under_elementary, under_compound_of, under_repeated}

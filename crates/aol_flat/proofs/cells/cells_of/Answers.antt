@@ -1,4 +1,4 @@
-use Rattle.std.proofs.Common.{rules, ◌≡◌, ◌<◌, ◌≤◌, ℕ, List, length, get_or, take, Ok, sym, ◌∙◌, ap, arith, subst}
+use Rattle.std.proofs.Common.{◌≡◌, ◌<◌, ◌≤◌, List, length, get_or, ◌∙◌, ap, arith, subst}
 use Rattle.std.proofs.lemmas.List.{take_all}
 use Rattle.aol_model_types.specs.declared.task.Task.{Task}
 use Rattle.aol_flat.specs.declared.nodes.NodeRow.{NodeRow}

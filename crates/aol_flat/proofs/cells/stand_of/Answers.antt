@@ -1,10 +1,8 @@
-use Rattle.std.proofs.Common.{rules, ◌≡◌, ◌<◌, ◌≢◌, ℕ, List, length, get_or, sym, ◌∙◌, ap, arith, subst}
+use Rattle.std.proofs.Common.{rules, ◌≡◌, ◌<◌, ◌≢◌, length, get_or, ◌∙◌, ap, arith}
 use Rattle.aol_model_types.specs.declared.task.Task.{Task}
 use Rattle.aol_flat.specs.declared.nodes.NodeRow.{NodeRow}
-use Rattle.aol_flat.specs.Node.{nodes}
-use Rattle.aol_flat.specs.Cells.{IsStand}
 use Rattle.aol_flat.proofs.NodeRows.{get_or-any}
-use Rattle.aol_flat.proofs.Standing.{many_rows, task_there, up_there, stand_root, stand_inner}
+use Rattle.aol_flat.proofs.Standing.{many_rows, task_there, up_there, stand_inner}
 use Rattle.aol_flat.proofs.cells.stand_of.Goals as goal
 
 -- no row

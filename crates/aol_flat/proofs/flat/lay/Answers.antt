@@ -1,10 +1,6 @@
-use Rattle.std.proofs.Common.{List, Result, Err, sym, ◌∙◌, ap, subst}
-use Rattle.std.proofs.lemmas.Result.{err_from_is_err_and}
+use Rattle.std.proofs.Common.{List, subst}
 use Rattle.aol_model_types.specs.declared.task.Task.{Task}
-use Rattle.aol_flat.specs.declared.flat.Layout.{Layout}
-use Rattle.aol_flat.specs.declared.refused.FlatRefused.{FlatRefused}
 use Rattle.aol_flat.specs.Numbered.{FindsNumbers}
-use Rattle.aol_flat.specs.Tables.{EndsLaid}
 use Rattle.aol_flat.proofs.Laying.{bounded}
 use Rattle.aol_flat.proofs.Order.{stand_on_earlier}
 use Rattle.aol_flat.proofs.flat.lay.Goals as goal

@@ -1,4 +1,4 @@
-use Rattle.std.proofs.Common.{rules, ◌≡◌, ℕ, ◌+◌, ◌*◌, ◌<◌, length, get_or, List, Some, Ok, OnOk, refl, sym, ◌∙◌, ap, subst, arith}
+use Rattle.std.proofs.Common.{rules, ◌≡◌, ℕ, ◌+◌, ◌*◌, ◌<◌, length, get_or, Some, Ok, refl, sym, ◌∙◌, ap, subst, arith}
 use Rattle.aol_shape.specs.Shape.{size}
 use Rattle.aol_model_types.specs.declared.task.Task.{Task}
 use Rattle.aol_flat.specs.declared.place.Way.{Way}
@@ -6,7 +6,7 @@ use Rattle.aol_flat.specs.Numbered.{number_named}
 use Rattle.aol_flat.specs.Placed.{PlacesCopies, PlacesParts, PlacesDown}
 use Rattle.aol_flat.specs.Leaves.{narrowed}
 use Rattle.aol_flat.specs.Saturated.{saturated}
-use Rattle.aol_flat.proofs.Placing.{PlacesUnder, PlacesFront, place_first, place_elementary, place_compound, place_repeated, place_nowhere, place_found, place_more, place_all, parts_lower, body_lower}
+use Rattle.aol_flat.proofs.Placing.{PlacesUnder, place_first, place_elementary, place_compound, place_repeated, place_nowhere, place_found, place_more, place_all, parts_lower, body_lower}
 use Rattle.aol_flat.proofs.Among.{among_get}
 use Rattle.aol_flat.proofs.TaskNumbers.{found}
 use Rattle.aol_flat.proofs.place.+place.Goals as goal

@@ -1,5 +1,5 @@
-use Rattle.std.proofs.Common.{rules, ◌≡◌, ◌<◌, ◌≤◌, ◌&&◌, Bool, not, true, false, nat_eq, ℕ, length, take, get_or, sym, ◌∙◌, ap, arith}
-use Rattle.std.specs.List.{list_any, position_or_len}
+use Rattle.std.proofs.Common.{rules, ◌≡◌, ◌<◌, ◌≤◌, Bool, not, true, false, nat_eq, length, take, get_or, sym, ◌∙◌, ap}
+use Rattle.std.specs.List.{list_any}
 use Rattle.aol_model_types.specs.declared.task.Part.{Part}
 use Rattle.aol_shape.specs.Lists.{same}
 use Rattle.aol_flat.proofs.Storing.{numbered_there, numbered_past, false_left, true_left}

@@ -1,4 +1,4 @@
-use Rattle.std.proofs.Common.{◌≡◌, false, List, ◌++◌, ◌∷◌, [], map, length, take, get_or, Ok, sym, ◌∙◌, ap, subst, arith}
+use Rattle.std.proofs.Common.{false, List, ◌∷◌, [], map, take, Ok, sym, ◌∙◌, ap, subst}
 use Rattle.std.proofs.lemmas.List.{take_all, map-append}
 use Rattle.aol_expr_tree.specs.declared.port.Port.{Port}
 use Rattle.aol_model_types.specs.declared.task.OutPort.{OutPort}

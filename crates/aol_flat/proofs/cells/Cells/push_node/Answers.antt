@@ -1,4 +1,4 @@
-use Rattle.std.proofs.Common.{◌≡◌, true, List, Ok, refl, subst}
+use Rattle.std.proofs.Common.{true, List, Ok, refl, subst}
 use Rattle.aol_expr_tree.specs.declared.port.Port.{Port}
 use Rattle.aol_flat.specs.Cells.{PushesPorts}
 use Rattle.aol_flat.proofs.Firsts.{node_there}

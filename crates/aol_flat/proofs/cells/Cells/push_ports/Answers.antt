@@ -1,4 +1,4 @@
-use Rattle.std.proofs.Common.{◌≡◌, List, ◌++◌, ◌∷◌, [], length, take, get_or, Ok, sym, ◌∙◌, ap, subst, arith}
+use Rattle.std.proofs.Common.{List, take, Ok, sym, subst}
 use Rattle.std.proofs.lemmas.List.{take_all}
 use Rattle.aol_expr_tree.specs.declared.port.Port.{Port}
 use Rattle.aol_flat.specs.Cells.{PushesPorts}

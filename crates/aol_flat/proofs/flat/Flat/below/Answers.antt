@@ -1,10 +1,8 @@
 use Rattle.std.proofs.Common.{rules, ◌≡◌, ◌<◌, ◌+◌, ◌^◌, ℕ, List, [], length, get_or, sym, ◌∙◌, ap, subst, arith}
-use Rattle.aol_model_types.specs.declared.document.Model.{Model}
 use Rattle.aol_flat.specs.declared.nodes.NodeRow.{NodeRow}
 use Rattle.aol_flat.specs.Laid.{Laid}
-use Rattle.aol_flat.specs.Node.{nodes}
 use Rattle.aol_flat.specs.NodeTable.{HasPart, IsPartNode}
-use Rattle.aol_flat.proofs.NodeRows.{count_rows, get_or-any, in_nodes, IsStepToPart, part_node, task_steps}
+use Rattle.aol_flat.proofs.NodeRows.{count_rows, get_or-any, in_nodes, part_node, task_steps}
 use Rattle.aol_flat.proofs.flat.Flat.below.Goals as goal
 
 -- no row

@@ -1,4 +1,4 @@
-use Rattle.std.proofs.Common.{◌≡◌, ◌<◌, length, get_or, sym, ◌∙◌, ap, subst, arith}
+use Rattle.std.proofs.Common.{◌≡◌, ◌<◌, length, get_or, sym, ap, subst, arith}
 use Rattle.aol_flat.specs.declared.nodes.NodeRow.{NodeRow}
 use Rattle.aol_flat.specs.Laid.{Laid}
 use Rattle.aol_flat.specs.Node.{nodes}

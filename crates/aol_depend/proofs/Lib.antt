@@ -8,3 +8,5 @@ pub mod Measure
 pub mod Steps
 pub mod Starting
 pub mod Finding
+pub mod Gathering
+pub mod AddedRow

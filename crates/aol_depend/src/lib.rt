@@ -4,5 +4,6 @@
 //! one more than the greatest level among those that it needs. Read `aol_flat`'s `specs/Level.antt` first, then `levels`.
 #![tactic(auto)]
 
+mod gather;
 mod needs;
 mod search;

@@ -1,13 +1,14 @@
 -- What a search has found at its end.
-use Rattle.std.proofs.Common.{◌≡◌, ◌≢◌, ◌<◌, ℕ, zero, suc, ◌+◌, List, [], ◌∷◌, length, slice_get, get_or, set, Option, Some, None, ap, sym, ◌∙◌, arith, refl, subst, ◌⊎◌, inl, inr}
+use Rattle.std.proofs.Common.{◌≡◌, ◌≢◌, ◌<◌, ◌^◌, fold, max, ℕ, zero, suc, ◌+◌, List, [], ◌∷◌, length, slice_get, get_or, set, Option, Some, None, ap, sym, ◌∙◌, arith, refl, subst, ◌⊎◌, inl, inr}
 use Rattle.std.specs.List.{IsAmong}
+use Rattle.std.proofs.lemmas.List.Sums.{count_by-le-length}
 use Rattle.std.proofs.lemmas.Option.{slice_get-get_or, slice_get_within}
 use Rattle.aol_flat.specs.Level.{above_all}
 use Rattle.aol_flat.proofs.Agree.{IsAmong-tail}
 use Rattle.aol_depend.specs.declared.search.Mark.{Mark}
 use Rattle.aol_depend.specs.declared.search.Mark.TheVariants.{New, Open, Ranked, Doomed}
 use Rattle.aol_depend.specs.Needs.{Rows, row, HaveLevels, IsCircling, IsFirstCircling}
-use Rattle.aol_depend.specs.Search.{IsAt}
+use Rattle.aol_depend.specs.Search.{IsAt, is_ranked}
 use Rattle.aol_depend.proofs.Moves.{above_all-over}
 
 -- all that is doomed, from some number on
@@ -96,3 +97,17 @@ have_levels needs marks levels count h none all = record {
   many = h.many_levels;
   each = λ j within. (h.ranks j (settled needs marks levels count h none j within (all j within))).level;
 }
+
+-- the greatest of numbers that are below a bound is below it, or is the number at the start
+most_below : (levels : List ℕ) (n a : ℕ) → a + 1 < 2 ^ 32 → n < 2 ^ 32 → ((j : ℕ) → j < length levels → get_or levels j 0 < n) → fold max a levels + 1 < 2 ^ 32
+most_below [] n a start bound low = start
+most_below (x ∷ xs) n a start bound low =
+    let here : x < n = low 0 (omega arith) in
+    most_below xs n (max a x) (omega (arith, start, here, bound)) bound (λ j lt. low (suc j) (omega (arith, lt)))
+
+-- there is room for one more than the greatest level
+pub levels_fit : (needs : Rows) (marks : List Mark) (levels : List ℕ) (count : ℕ) → IsAt needs marks levels count [] → ((i : ℕ) → slice_get marks i ≡ Some New → ⊥)
+    → ((i : ℕ) → i < length needs → slice_get marks i ≡ Some Doomed → ⊥) → fold max 0 levels + 1 < 2 ^ 32
+levels_fit needs marks levels count h none all =
+    most_below levels count 0 (omega arith) (omega (arith, h.count, count_by-le-length is_ranked marks, h.many_marks, h.few))
+    (λ j lt. h.low j (let within : j < length needs = omega (arith, lt, h.many_levels) in settled needs marks levels count h none j within (all j within)))

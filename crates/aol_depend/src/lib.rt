@@ -5,5 +5,10 @@
 #![tactic(auto)]
 
 mod gather;
+mod levels;
 mod needs;
+mod refused;
 mod search;
+
+pub use levels::Levels;
+pub use refused::DependRefused;

@@ -1,6 +1,6 @@
 //! The search for levels: an instance has its level once all that it needs have theirs.
 
-ghost use Rattle.std.specs.Prelude.{◌≡◌, ◌<◌, ◌+◌, ◌^◌, ℕ, [], ◌∷◌, ◌++◌, Some, reverse, length, slice_get, slice_index, slice_set, OnOk, IfOk};
+ghost use Rattle.std.specs.Prelude.{◌≡◌, ◌<◌, ◌+◌, ◌^◌, ℕ, [], ◌∷◌, ◌++◌, Some, reverse, length, slice_get, slice_index, slice_set, fold, max, OnOk, IfOk, IfNone};
 ghost use Rattle.std.specs.List.{IsAmong};
 ghost use Rattle.aol_depend.specs.Needs.{AreWithin, IsFound};
 ghost use Rattle.aol_depend.specs.Search.{IsAt, IsSearch, KeepsOld, steps_left, doomed};
@@ -40,7 +40,8 @@ impl Search {
     /// A search that has not begun.
     pub fn new(alloc: Global, needs: &Needs) -> Result<Search, AllocError>
         requires { AreWithin needs.now }
-        ensures { IfOk result (λ s. IsSearch needs.now s) }
+        ensures state { IfOk result (λ s. IsSearch needs.now s) }
+        ensures path { IfOk result (λ s. s.path.items ≡ []) }
     {
         let count = needs.len();
         Ok(Search {
@@ -194,7 +195,8 @@ impl Search {
         requires state { IsSearch needs.now self.now }
         requires path { self.now.path.items ≡ [] }
         requires all { (j : ℕ) → slice_get self.now.marks.items j ≡ Some Mark.New → ⊥ }
-        ensures { IsFound needs.now self.now result }
+        ensures found { IsFound needs.now self.now result }
+        ensures few { IfNone result (fold max 0 self.now.levels.items + 1 < 2 ^ 32) }
     {
         for instance in 0..needs.len() as u32 {
             if let Mark::Doomed = self.mark(instance) {

@@ -50,6 +50,7 @@ pub record IsSteppedUnder (fuel : ℕ) (m : Model) (node : Node) (t : Task) (own
   pub each : (c : Compound) (k : ℕ) → t ≡ tasks.Compound c → k < length c.parts → IsStepAt own k (step_to fuel m node c.parts k)
   pub all : count ≡ narrowed (length (nodes_below (suc fuel) m (Some t) node))
 
+-- so it is wherever the task stands
 abbrev pub AreStepsUnder : Model → Task → List ℕ → List ℕ → ℕ → Type 0
 AreStepsUnder m t counts own count =
     (fuel : ℕ) (node : Node) → AreCounts m counts → ((name : List ℕ) → IsAmong (inner_names t) name → IsCountable m counts fuel name) → IsSteppedUnder fuel m node t own count

@@ -4,3 +4,4 @@ pub mod Plans
 pub mod LaneSteps
 pub mod NoRange
 pub mod LineSteps
+pub mod Programs

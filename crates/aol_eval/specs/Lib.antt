@@ -6,3 +6,4 @@ pub mod Resolved
 pub mod Computed
 pub mod Lanes
 pub mod Lines
+pub mod Programs

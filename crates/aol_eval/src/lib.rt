@@ -9,12 +9,14 @@
 
 mod arithmetic;
 mod columns;
+mod compile;
 mod evaluate;
 mod inputs;
 mod lanes;
 mod lines;
 mod pattern;
 mod place;
+mod program;
 mod resolution;
 mod resolve;
 mod run;

@@ -1,0 +1,188 @@
+//! Programs of steps whose sums are short: these are written out term by term.
+
+ghost use Rattle.std.specs.Prelude.{◌≡◌, ◌∷◌, ◌++◌, ◌+◌, [], pos, length, Ok, IfSome, nat_abs};
+ghost use Rattle.aol_expr_tree.specs.Meaning.{applied, nth_number};
+ghost use Rattle.aol_eval.specs.Frames.{numbers_of};
+ghost use Rattle.aol_eval.specs.Programs.{operand_value, next_rank, Computes, IsKnown, Makes, Pushes};
+ghost use Rattle.aol_eval.specs.Resolved.{element_at, plan_of, plans_of, run, series};
+
+use crate::arithmetic::apply;
+use crate::program::{LONGEST, Operand, Operation, Program, rank_with};
+use crate::run::Frame;
+use crate::step::Step;
+use aol_expr_tree::ExprOp;
+use aol_shape::{Items, Shape};
+use std::alloc::Global;
+
+/// The most terms of a sum that is written out.
+const SHORT: u32 = 16;
+
+/// Adds an operation, where there is room for it, and says what it gives.
+fn push(operations: &mut Items<Operation>, operation: Operation) -> Option<Operand>
+    ensures { IfSome result (Pushes operations.old operations.new operation) }
+{
+    let count = operations.len();
+    if count >= LONGEST {
+        return None;
+    }
+    operations.push(operation).ok()?;
+    Some(Operand::Given(count))
+}
+
+/// An operator at two operands; at two numbers it is computed at once.
+fn apply_to(
+    operations: &mut Items<Operation>,
+    op: ExprOp,
+    left: Operand,
+    right: Operand,
+) -> Option<Operand>
+    requires left { IsKnown (length operations.old) left }
+    requires right { IsKnown (length operations.old) right }
+    ensures { IfSome result (Makes operations.old operations.new (λ nums at given. applied op (operand_value nums at given left) (operand_value nums at given right))) }
+{
+    match (left, right) {
+        (Operand::Number(left), Operand::Number(right)) => {
+            Some(Operand::Number(apply(op, left, right).ok()?))
+        }
+        _ => push(operations, Operation::Apply(op, left, right)),
+    }
+}
+
+/// A rank with one more index; at two numbers it is computed at once.
+fn rank_to(
+    operations: &mut Items<Operation>,
+    rank: Operand,
+    entry: u32,
+    index: Operand,
+) -> Option<Operand>
+    requires rank { IsKnown (length operations.old) rank }
+    requires index { IsKnown (length operations.old) index }
+    ensures { IfSome result (Makes operations.old operations.new (λ nums at given. next_rank entry (operand_value nums at given rank) (operand_value nums at given index))) }
+{
+    match (rank, index) {
+        (Operand::Number(rank), Operand::Number(index)) => {
+            Some(Operand::Number(rank_with(rank, entry, index)?))
+        }
+        _ => push(operations, Operation::Rank(rank, entry, index)),
+    }
+}
+
+/// The number with a rank behind the first so many; at a number its place.
+fn read_from(operations: &mut Items<Operation>, start: usize, rank: Operand) -> Option<Operand>
+    requires { IsKnown (length operations.old) rank }
+    ensures { IfSome result (Makes operations.old operations.new (λ nums at given. Ok (nth_number nums (start + nat_abs (operand_value nums at given rank))))) }
+{
+    match rank {
+        Operand::Number(rank) => {
+            let place = start.checked_add(usize::try_from(rank).ok()?)?;
+            Some(Operand::Place(place))
+        }
+        _ => push(operations, Operation::Read(start, rank)),
+    }
+}
+
+/// What a step computes, where its operations have room.
+#[cycle(compile)]
+fn operand_of<'v>(
+    step: &Step,
+    vars: &'v Frame<'v>,
+    operations: &mut Items<Operation>,
+) -> Option<Operand>
+    ensures { IfSome result (Makes operations.old operations.new (λ nums at given. run nums at (numbers_of vars.now) (plan_of step.now))) }
+{
+    match step {
+        Step::Num(number) => Some(Operand::Number(*number)),
+        Step::Index(k) => Some(Operand::Entry(*k)),
+        Step::Var(depth) => Some(Operand::Number(vars.value(*depth))),
+        Step::Read(shape, start, indices) => {
+            read_operand(shape, *start, indices, vars, operations)
+        }
+        Step::Bin(op, left, right) => {
+            let left = operand_of(left, vars, operations)?;
+            let right = operand_of(right, vars, operations)?;
+            apply_to(operations, *op, left, right)
+        }
+        Step::If(condition, then, otherwise) => {
+            let condition = operand_of(condition, vars, operations)?;
+            let then = operand_of(then, vars, operations)?;
+            let otherwise = operand_of(otherwise, vars, operations)?;
+            push(operations, Operation::Choose(condition, then, otherwise))
+        }
+        Step::Sum(terms, term) => sum_operand(*terms, term, vars, operations),
+    }
+}
+
+/// The element at the indices.
+#[cycle(compile)]
+fn read_operand<'v>(
+    shape: &Option<Shape>,
+    start: usize,
+    indices: &Items<Step>,
+    vars: &'v Frame<'v>,
+    operations: &mut Items<Operation>,
+) -> Option<Operand>
+    ensures { IfSome result (Makes operations.old operations.new (λ nums at given. run nums at (numbers_of vars.now) (element_at shape.now start (plans_of indices.now)))) }
+{
+    let Some(known) = shape else {
+        return None;
+    };
+    let mut entries = known.as_slice();
+    let mut rank = Operand::Number(0);
+    for index in indices.as_slice() {
+        let (entry, rest) = entries.split_first()?;
+        let index = operand_of(index, vars, operations)?;
+        rank = rank_to(operations, rank, *entry, index)?;
+        entries = rest;
+    }
+    if !entries.is_empty() {
+        return None;
+    }
+    read_from(operations, start, rank)
+}
+
+/// The sum of the term with the variable from 0 to below the number of terms.
+#[cycle(compile)]
+fn sum_operand<'v>(
+    terms: u32,
+    term: &Step,
+    vars: &'v Frame<'v>,
+    operations: &mut Items<Operation>,
+) -> Option<Operand>
+    ensures { IfSome result (Makes operations.old operations.new (λ nums at given. run nums at (numbers_of vars.now) (series terms (plan_of term.now)))) }
+{
+    if terms > SHORT {
+        return None;
+    }
+    let mut sum = Operand::Number(0);
+    for k in 0..terms {
+        let z = term_operand(k, term, vars, operations)?;
+        sum = push(operations, Operation::Apply(ExprOp::Add, sum, z))?;
+    }
+    Some(sum)
+}
+
+/// The term with the variable at a number.
+#[cycle(compile)]
+fn term_operand<'v>(
+    k: u32,
+    term: &Step,
+    vars: &'v Frame<'v>,
+    operations: &mut Items<Operation>,
+) -> Option<Operand>
+    ensures { IfSome result (Makes operations.old operations.new (λ nums at given. run nums at (pos k ∷ numbers_of vars.now) (plan_of term.now))) }
+{
+    operand_of(
+        term,
+        &Frame::Inside(i64::from(k), vars),
+        operations,
+    )
+}
+
+/// The program of a step outside any sum, where its sums are short and its operations few.
+pub(crate) fn program_of(alloc: Global, step: &Step) -> Option<Program>
+    ensures { IfSome result (Computes (plan_of step.now)) }
+{
+    let mut operations = Items::new(alloc);
+    let value = operand_of(step, &Frame::Outermost, &mut operations)?;
+    Some(Program { operations, value })
+}

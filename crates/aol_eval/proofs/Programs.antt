@@ -7,15 +7,15 @@ use Rattle.std.proofs.lemmas.List.{take-set-le, drop_all}
 use Rattle.std.proofs.lemmas.Option.{get_or_from_slice_get, slice_get_within}
 use Rattle.aol_eval.specs.declared.program.Operand.{Operand}
 use Rattle.aol_eval.specs.declared.program.Operand.TheVariants.{Number, Entry, Place, Given}
-use Rattle.aol_eval.specs.declared.program.Operation.TheVariants.{Apply, Choose, Rank, Read}
+use Rattle.aol_eval.specs.declared.program.Operation.TheVariants.{Apply, Choose, Rank, Element}
 use Rattle.aol_eval.specs.declared.step.Step.{Step}
 use Rattle.aol_expr_tree.specs.declared.op.ExprOp.{ExprOp}
 use Rattle.aol_expr_tree.specs.declared.op.ExprOp.TheVariants.{Add}
 use Rattle.aol_expr_tree.specs.declared.value.Kind.TheVariants.{Index}
 use Rattle.aol_eval.specs.declared.program.Operation.{Operation}
 use Rattle.aol_expr_tree.specs.declared.value.Kind.{Kind}
-use Rattle.aol_expr_tree.specs.Meaning.{applied, is_zero, nth_number, summed}
-use Rattle.aol_eval.specs.Programs.{next_rank, operand_value, operation_value, Follows, FollowsUpTo, IsKnown, Makes, Pushes, Computes, Yields}
+use Rattle.aol_expr_tree.specs.Meaning.{◌>>=◌, applied, is_zero, nth_number, summed}
+use Rattle.aol_eval.specs.Programs.{element_after, next_rank, operand_value, operation_value, Follows, FollowsUpTo, IsKnown, Makes, Pushes, Computes, Yields}
 use Rattle.aol_eval.specs.Resolved.{Plan, Plans, no_plans, plan_and, plan_of, plans_of, run, element_at, operation, choice}
 use Rattle.aol_eval.specs.Places.{rank_on}
 use Rattle.aol_eval.proofs.Evaluation.{sum-more}
@@ -136,11 +136,16 @@ pub pushes-rank : (old new : List Operation) (entry : ℕ) (l r s : Operand) →
 pushes-rank old new entry l r s left right pushed =
     pushes-makes old new (Rank l entry r) s _ (λ nums at given. rw (value-take nums at given (length old) l left, value-take nums at given (length old) r right) refl) pushed
 
--- a number of the patterns
-pub pushes-read : (old new : List Operation) (start : ℕ) (r s : Operand) → IsKnown (length old) r → Pushes old new (Read start r) s
-    → Makes old new (λ nums at given. Ok (nth_number nums (start + nat_abs (operand_value nums at given r)))) s
-pushes-read old new start r s rank pushed =
-    pushes-makes old new (Read start r) s _ (λ nums at given. rw (value-take nums at given (length old) r rank) refl) pushed
+-- an element
+pub pushes-element : (old new : List Operation) (start entry : ℕ) (l r s : Operand) → IsKnown (length old) l → IsKnown (length old) r → Pushes old new (Element start l entry r) s
+    → Makes old new (λ nums at given. element_after start nums entry (operand_value nums at given l) (operand_value nums at given r)) s
+pushes-element old new start entry l r s left right pushed =
+    pushes-makes old new (Element start l entry r) s _ (λ nums at given. rw (value-take nums at given (length old) l left, value-take nums at given (length old) r right) refl) pushed
+
+-- what came first was no fault either
+then_ok : (r : Result ℤ Kind) (f : ℤ → Result ℤ Kind) (z : ℤ) → (r >>= f) ≡ Ok z → (w : ℤ) × (r ≡ Ok w) × (f w ≡ Ok z)
+then_ok (Ok w) f z is = (w, refl, is)
+then_ok (Err k) f z is = absurd (cc)
 
 -- a number and no fault
 abbrev fine : ℤ → Result ℤ Kind
@@ -237,18 +242,32 @@ module _ (vars : List ℤ) where
           ranks-on entry (nat_abs (operand_value nums at given p)) (operand_value nums at given q) (operand_value nums at given s)
           (ap (λ z. next_rank entry z (operand_value nums at given q)) (sym (one.above nums at given in_b)) ∙ three.value nums at given follows)
 
-  -- and then the number
-  pub makes-read : (a b c : List Operation) (shape : Option (List ℕ)) (start : ℕ) (indices : Plans) (entries : List ℕ) (all : Plans) (p s : Operand)
-      → MakesRank a b vars shape start indices p entries all → entries ≡ [] → all ≡ no_plans
-      → Makes b c (λ nums at given. Ok (nth_number nums (start + nat_abs (operand_value nums at given p)))) s → Makes a c (of_plan (element_at shape start indices)) s
-  makes-read a b c shape start indices entries all p s one none no_more two = record {
-    longer = omega (arith, one.longer, two.longer);
-    kept = λ k o found. two.kept k o (one.kept k o found);
-    known = two.known;
+  -- the last index
+  pub makes-element : (a b c d : List Operation) (shape : Option (List ℕ)) (start : ℕ) (indices : Plans) (entry : ℕ) (entries rest : List ℕ) (plan : Plan) (all left : Plans) (p q s : Operand)
+      → MakesRank a b vars shape start indices p entries all → entries ≡ entry ∷ rest → rest ≡ [] → all ≡ plan_and plan left → left ≡ no_plans → Makes b c (of_plan plan) q
+      → Makes c d (λ nums at given. element_after start nums entry (operand_value nums at given p) (operand_value nums at given q)) s
+      → Makes a d (of_plan (element_at shape start indices)) s
+  makes-element a b c d shape start indices entry entries rest plan all left p q s one split none more no_more two three = record {
+    longer = omega (arith, one.longer, two.longer, three.longer);
+    kept = λ k o found. three.kept k o (two.kept k o (one.kept k o found));
+    known = three.known;
     value = λ nums at given follows.
-        one.reads nums at given (follows-kept two nums at given follows)
-        ∙ rw (none, no_more) (ap Ok (nth-drop nums start (nat_abs (operand_value nums at given p))) ∙ two.value nums at given follows);
+        let in_c = follows-kept three nums at given follows in
+        let in_b = follows-kept two nums at given in_c in
+        let r = nat_abs (operand_value nums at given p) in
+        let z = operand_value nums at given q in
+        let given_three : element_after start nums entry (pos r) z ≡ Ok (operand_value nums at given s)
+        = ap (λ v. element_after start nums entry v z) (sym (one.above nums at given in_b)) ∙ three.value nums at given follows in
+        let w = then_ok (next_rank entry (pos r) z) (λ v. Ok (nth_number nums (start + nat_abs v))) (operand_value nums at given s) given_three in
+        one.reads nums at given in_b
+        ∙ rw (split, more) (read_on-more nums at vars start entry rest r _ plan left z (two.value nums at given in_c) (ranks-on entry r z w.0 w.1).1
+        ∙ rw (none, no_more) (ap Ok (nth-drop nums start (nat_abs w.0)) ∙ w.2));
   }
+
+  -- an element without indices
+  pub makes-scalar : (a : List Operation) (shape : Option (List ℕ)) (entries : List ℕ) (start : ℕ) (indices : Plans) → shape ≡ Some entries → entries ≡ [] → indices ≡ no_plans → Makes a a (of_plan (element_at shape start indices)) (Place start)
+  makes-scalar a shape entries start indices is none no_more = rw (is, none, no_more) (makes-now a (of_plan (element_at (Some []) start no_plans)) (Place start) tt
+      (λ nums at given. let e : start + 0 ≡ start = omega arith in ap Ok (nth-drop nums start 0 ∙ ap (nth_number nums) e)))
 
 -- the plans of the steps that are left
 pub plans-left : (steps : List Step) (k : ℕ) (step : Step) → k < length steps → step ≡ get_or steps k step → plans_of (drop k steps) ≡ plan_and (plan_of step) (plans_of (drop (k + 1) steps))

@@ -2,11 +2,11 @@
 use Rattle.std.specs.Prelude.{◌≡◌, ℕ, ◌+◌, ◌<◌, ◌≤◌, ℤ, pos, negsuc, ◌+ℤ◌, ◌*ℤ◌, nat_abs, nat_lt, List, [], ◌∷◌, ◌++◌, take, length, Option, Some, Result, Ok, Err, slice_index, slice_get, if◌then◌else◌}
 use Rattle.aol_expr_tree.specs.declared.value.Kind.{Kind}
 use Rattle.aol_expr_tree.specs.declared.value.Kind.TheVariants.{Index}
-use Rattle.aol_expr_tree.specs.Meaning.{applied, is_zero, nth_number}
+use Rattle.aol_expr_tree.specs.Meaning.{◌>>=◌, applied, is_zero, nth_number}
 use Rattle.aol_eval.specs.declared.program.Operand.{Operand}
 use Rattle.aol_eval.specs.declared.program.Operand.TheVariants.{Number, Entry, Place, Given}
 use Rattle.aol_eval.specs.declared.program.Operation.{Operation}
-use Rattle.aol_eval.specs.declared.program.Operation.TheVariants.{Apply, Choose, Rank, Read}
+use Rattle.aol_eval.specs.declared.program.Operation.TheVariants.{Apply, Choose, Rank, Element}
 use Rattle.aol_eval.specs.declared.program.Program.{Program}
 use Rattle.aol_eval.specs.Resolved.{Plan, run}
 
@@ -22,12 +22,16 @@ abbrev pub next_rank : ℕ → ℤ → ℤ → Result ℤ Kind
 next_rank entry rank (pos i) = if nat_lt i entry then Ok (rank *ℤ pos entry +ℤ pos i) else Err Index
 next_rank entry rank (negsuc i) = Err Index
 
+-- the number with that rank behind the first so many
+abbrev pub element_after : ℕ → List ℤ → ℕ → ℤ → ℤ → Result ℤ Kind
+element_after start nums entry rank index = next_rank entry rank index >>= (λ z. Ok (nth_number nums (start + nat_abs z)))
+
 -- what an operation gives
 abbrev pub operation_value : List ℤ → List ℕ → List ℤ → Operation → Result ℤ Kind
 operation_value nums at given (Apply op l r) = applied op (operand_value nums at given l) (operand_value nums at given r)
 operation_value nums at given (Choose c a b) = Ok (if is_zero (operand_value nums at given c) then operand_value nums at given b else operand_value nums at given a)
 operation_value nums at given (Rank rank entry index) = next_rank entry (operand_value nums at given rank) (operand_value nums at given index)
-operation_value nums at given (Read start rank) = Ok (nth_number nums (start + nat_abs (operand_value nums at given rank)))
+operation_value nums at given (Element start rank entry index) = element_after start nums entry (operand_value nums at given rank) (operand_value nums at given index)
 
 -- each of the first operations gives the number with its rank, from the numbers before it
 abbrev pub FollowsUpTo : ℕ → List Operation → List ℤ → List ℕ → List ℤ → Type 0

@@ -1,9 +1,9 @@
 //! Programs of steps whose sums are short: these are written out term by term.
 
-ghost use Rattle.std.specs.Prelude.{◌≡◌, ◌∷◌, ◌++◌, ◌+◌, [], pos, length, Ok, IfSome, nat_abs};
-ghost use Rattle.aol_expr_tree.specs.Meaning.{applied, nth_number};
+ghost use Rattle.std.specs.Prelude.{◌∷◌, pos, length, IfSome};
+ghost use Rattle.aol_expr_tree.specs.Meaning.{applied};
 ghost use Rattle.aol_eval.specs.Frames.{numbers_of};
-ghost use Rattle.aol_eval.specs.Programs.{operand_value, next_rank, Computes, IsKnown, Makes, Pushes};
+ghost use Rattle.aol_eval.specs.Programs.{operand_value, element_after, next_rank, Computes, IsKnown, Makes, Pushes};
 ghost use Rattle.aol_eval.specs.Resolved.{element_at, plan_of, plans_of, run, series};
 
 use crate::arithmetic::apply;
@@ -67,17 +67,24 @@ fn rank_to(
     }
 }
 
-/// The number with a rank behind the first so many; at a number its place.
-fn read_from(operations: &mut Items<Operation>, start: usize, rank: Operand) -> Option<Operand>
-    requires { IsKnown (length operations.old) rank }
-    ensures { IfSome result (Makes operations.old operations.new (λ nums at given. Ok (nth_number nums (start + nat_abs (operand_value nums at given rank))))) }
+/// The element at a rank with one more index; at two numbers its place is computed at once.
+fn element_to(
+    operations: &mut Items<Operation>,
+    start: usize,
+    rank: Operand,
+    entry: u32,
+    index: Operand,
+) -> Option<Operand>
+    requires rank { IsKnown (length operations.old) rank }
+    requires index { IsKnown (length operations.old) index }
+    ensures { IfSome result (Makes operations.old operations.new (λ nums at given. element_after start nums entry (operand_value nums at given rank) (operand_value nums at given index))) }
 {
-    match rank {
-        Operand::Number(rank) => {
-            let place = start.checked_add(usize::try_from(rank).ok()?)?;
-            Some(Operand::Place(place))
+    match (rank, index) {
+        (Operand::Number(rank), Operand::Number(index)) => {
+            let rank = rank_with(rank, entry, index)?;
+            Some(Operand::Place(start.checked_add(usize::try_from(rank).ok()?)?))
         }
-        _ => push(operations, Operation::Read(start, rank)),
+        _ => push(operations, Operation::Element(start, rank, entry, index)),
     }
 }
 
@@ -127,17 +134,20 @@ fn read_operand<'v>(
         return None;
     };
     let mut entries = known.as_slice();
+    if entries.is_empty() && indices.is_empty() {
+        return Some(Operand::Place(start));
+    }
     let mut rank = Operand::Number(0);
-    for index in indices.as_slice() {
+    for (k, index) in indices.as_slice().iter().enumerate() {
         let (entry, rest) = entries.split_first()?;
         let index = operand_of(index, vars, operations)?;
+        if rest.is_empty() && k + 1 == indices.len() {
+            return element_to(operations, start, rank, *entry, index);
+        }
         rank = rank_to(operations, rank, *entry, index)?;
         entries = rest;
     }
-    if !entries.is_empty() {
-        return None;
-    }
-    read_from(operations, start, rank)
+    None
 }
 
 /// The sum of the term with the variable from 0 to below the number of terms.

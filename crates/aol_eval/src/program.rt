@@ -1,16 +1,19 @@
 //! Programs: operations one after another, without names, sums or branches.
 
-ghost use Rattle.std.specs.Prelude.{◌≡◌, ◌+◌, Ok, IfSome, nat_abs};
-ghost use Rattle.aol_expr_tree.specs.Meaning.{nth_number};
+ghost use Rattle.std.specs.Prelude.{◌≡◌, ◌≤◌, ◌+◌, length, Ok, IfSome, nat_abs};
+ghost use Rattle.aol_expr_tree.specs.Meaning.{applied, nth_number};
 ghost use Rattle.aol_eval.specs.Programs.{next_rank, operand_value, operation_value, Yields};
 
-use crate::arithmetic::apply;
+use crate::arithmetic::{add, apply, multiply, subtract};
 use crate::inputs::entry;
 use aol_expr_tree::ExprOp;
 use aol_shape::Items;
 
 /// The most operations of a program.
 pub(crate) const LONGEST: usize = 32;
+
+/// How many operations need only a little room.
+const SMALL: usize = 6;
 
 /// What an operation is applied to.
 #[derive(Clone, Copy)]
@@ -32,8 +35,8 @@ pub(crate) enum Operation {
     Choose(Operand, Operand, Operand),
     /// The rank with one more index, which is checked against the entry.
     Rank(Operand, u32, Operand),
-    /// The number with this rank behind the first so many.
-    Read(usize, Operand),
+    /// The number behind the first so many whose rank is a rank with one more index, which is checked against the entry.
+    Element(usize, Operand, u32, Operand),
 }
 
 /// Operations, and where its value is.
@@ -67,6 +70,19 @@ fn nth(nums: &[i64], rank: usize) -> i64
     nums.get(rank).copied().unwrap_or(0)
 }
 
+/// An operator at two numbers, where it is no fault; sums, differences and products need no call.
+#[inline(always)]
+fn applied_to(op: ExprOp, left: i64, right: i64) -> Option<i64>
+    ensures { IfSome result (λ z. applied op left right ≡ Ok z) }
+{
+    match op {
+        ExprOp::Add => add(left, right).ok(),
+        ExprOp::Sub => subtract(left, right).ok(),
+        ExprOp::Mul => multiply(left, right).ok(),
+        _ => apply(op, left, right).ok(),
+    }
+}
+
 /// The rank with one more index, where the index is below the entry.
 #[inline(always)]
 pub(crate) fn rank_with(rank: i64, entry: u32, index: i64) -> Option<i64>
@@ -97,7 +113,7 @@ fn given_by(operation: Operation, nums: &[i64], at: &[u32], given: &[i64]) -> Op
         Operation::Apply(op, left, right) => {
             let left = left.number(nums, at, given);
             let right = right.number(nums, at, given);
-            apply(op, left, right).ok()
+            applied_to(op, left, right)
         }
         Operation::Choose(condition, then, otherwise) => {
             if condition.number(nums, at, given) != 0 {
@@ -111,22 +127,38 @@ fn given_by(operation: Operation, nums: &[i64], at: &[u32], given: &[i64]) -> Op
             let index = index.number(nums, at, given);
             rank_with(rank, entry, index)
         }
-        Operation::Read(start, rank) => number_after(nums, start, rank.number(nums, at, given)),
+        Operation::Element(start, rank, entry, index) => {
+            let rank = rank.number(nums, at, given);
+            let index = index.number(nums, at, given);
+            number_after(nums, start, rank_with(rank, entry, index)?)
+        }
     }
+}
+
+/// The value of a program, where none of its operations is a fault; `given` has room for what they give.
+#[inline(always)]
+fn outcome_in(program: &Program, nums: &[i64], at: &[u32], given: &mut [i64]) -> Option<i64>
+    requires { length program.now.operations ≤ length given.old }
+    ensures { IfSome result (Yields program.now nums.now at.now) }
+{
+    let operations = program.operations.as_slice();
+    for k in 0..operations.len() {
+        let z = given_by(operations[k], nums, at, &given[..k])?;
+        given[k] = z;
+    }
+    Some(program.value.number(nums, at, given))
 }
 
 /// The value of a program, where none of its operations is a fault.
 pub(crate) fn outcome_of(program: &Program, nums: &[i64], at: &[u32]) -> Option<i64>
     ensures { IfSome result (Yields program.now nums.now at.now) }
 {
-    let mut given = [0i64; LONGEST];
-    let operations = program.operations.as_slice();
-    if operations.len() > LONGEST {
-        return None;
+    let count = program.operations.len();
+    if count <= SMALL {
+        outcome_in(program, nums, at, &mut [0i64; SMALL])
+    } else if count <= LONGEST {
+        outcome_in(program, nums, at, &mut [0i64; LONGEST])
+    } else {
+        None
     }
-    for k in 0..operations.len() {
-        let z = given_by(operations[k], nums, at, &given[..k])?;
-        given[k] = z;
-    }
-    Some(program.value.number(nums, at, &given))
 }

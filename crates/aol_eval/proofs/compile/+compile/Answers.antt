@@ -1,10 +1,10 @@
-use Rattle.std.proofs.Common.{rules, ◌≡◌, ◌∙◌, ◌∷◌, ◌<◌, [], ap, subst, sym, arith, drop, length, List}
+use Rattle.std.proofs.Common.{rules, ◌≡◌, ◌+◌, ◌∙◌, ◌∷◌, ◌<◌, [], ap, subst, sym, arith, drop, length, List, Some}
 use Rattle.aol_eval.specs.Frames.{numbers_of}
 use Rattle.aol_eval.specs.Programs.{Makes}
 use Rattle.aol_eval.specs.Resolved.{Plan, plan_of, plans_of, level_plan, operation, choice, no_plans}
 use Rattle.aol_eval.specs.declared.step.Step.TheFolds.{fold_out-Step}
 use Rattle.aol_eval.proofs.LineSteps.{if_some-map}
-use Rattle.aol_eval.proofs.Programs.{makes-operation, makes-choice, makes-term, makes-index, makes-read, plans-left, none-left, no-entry, of_plan}
+use Rattle.aol_eval.proofs.Programs.{makes-operation, makes-choice, makes-term, makes-index, makes-element, makes-scalar, plans-left, none-left, no-entry, of_plan}
 use Rattle.aol_eval.proofs.compile.+compile.Goals as goal
 
 pub operand_of-returns-in_ok-right-in-Bin : goal.operand_of-returns-in_ok-right-in-Bin
@@ -31,17 +31,26 @@ operand_of-returns-in_ok-otherwise-in-If t c =
     let three : Makes c.operand_of-in-If-2.new.operations c.operand_of-in-If-3.new.operations (of_plan vars otherwise) c.in_ok-otherwise-in-If.otherwise = subst (λ s. Makes c.operand_of-in-If-2.new.operations c.operand_of-in-If-3.new.operations (of_plan vars (plan_of s)) c.in_ok-otherwise-in-If.otherwise) c.deref-in-If-3.ensures c.in_ok-otherwise-in-If.ensures in
     rw plan (if_some-map c.push.result (λ s pushed. makes-choice vars _ _ _ _ _ condition then otherwise _ _ _ s one two three pushed) c.push.ensures)
 
-pub read_operand-loop-index-preserved : goal.read_operand-loop-index-preserved
-read_operand-loop-index-preserved t c =
-    let left = rw c.as_slice-index-items.ensures at (plans-left c.as_slice-index-items.result.now c.loop-index.index-index c.index-item.result c.loop-index-test.true c.index-item.is) in
-    makes-index (numbers_of c.args.vars.now) _ _ _ _ c.args.shape.now c.args.start (plans_of c.args.indices.now) c.in_ok-entry.entry.now c.loop-index.entries.now c.in_ok-entry.rest.now (plan_of c.index-item.result) _ _ _ _ _
-    c.loop-index.invariant c.in_ok-entry.ensures.cases.0 left c.in_ok-index.ensures c.in_ok-rank.ensures
-
-pub read_operand-returns : goal.read_operand-returns
-read_operand-returns t c =
-    let all = rw c.as_slice-index-items.ensures at (none-left c.as_slice-index-items.result.now c.loop-index.index-index c.loop-index-test.false) in
-    if_some-map c.read_from.result (λ s two. makes-read (numbers_of c.args.vars.now) _ _ _ c.args.shape.now c.args.start (plans_of c.args.indices.now) c.loop-index.entries.now _ _ s c.loop-index.invariant (no-entry c.loop-index.entries.now c.if-not-is_empty.ensures) all two) c.read_from.ensures
-
 pub sum_operand-loop-k-preserved : goal.sum_operand-loop-k-preserved
 sum_operand-loop-k-preserved t c =
     makes-term (numbers_of c.args.vars.now) _ _ _ _ (plan_of c.args.term.now) c.loop-k.k _ _ _ c.loop-k.invariant c.in_ok-z.ensures c.in_ok-sum.ensures
+
+pub read_operand-returns-then-is_empty-2 : goal.read_operand-returns-then-is_empty-2
+read_operand-returns-then-is_empty-2 t c =
+    let none : c.args.indices.now ≡ [] = search (rules, c.if-is_empty-2.ensures) in
+    let shape : c.args.shape.now ≡ Some c.as_slice-entries.result.now = c.in-Some.is ∙ ap Some (sym c.as_slice-entries.ensures.entries) in
+    makes-scalar (numbers_of c.args.vars.now) _ c.args.shape.now c.as_slice-entries.result.now c.args.start (plans_of c.args.indices.now) shape (no-entry c.as_slice-entries.result.now c.if-is_empty.ensures) (ap plans_of none)
+
+pub read_operand-returns-then-k-len : goal.read_operand-returns-then-k-len
+read_operand-returns-then-k-len t c =
+    let steps = c.as_slice-index-items.result.now in
+    let left = rw c.as_slice-index-items.ensures at (plans-left steps c.loop-k.k c.index-item.result c.loop-k-test.true c.index-item.is) in
+    let all = rw c.as_slice-index-items.ensures at (none-left steps (c.loop-k.k + 1) (search (rules, arith))) in
+    if_some-map c.element_to.result (λ s three. makes-element (numbers_of c.args.vars.now) _ _ _ _ c.args.shape.now c.args.start (plans_of c.args.indices.now) c.in_ok-entry.entry.now c.loop-k.entries.now c.in_ok-entry.rest.now (plan_of c.index-item.result) _ _ _ _ s
+    c.loop-k.invariant c.in_ok-entry.ensures.cases.0 (no-entry c.in_ok-entry.rest.now c.if-is_empty-3.ensures) left all c.in_ok-index.ensures three) c.element_to.ensures
+
+pub read_operand-loop-k-preserved : goal.read_operand-loop-k-preserved
+read_operand-loop-k-preserved t c =
+    let left = rw c.as_slice-index-items.ensures at (plans-left c.as_slice-index-items.result.now c.loop-k.k c.index-item.result c.loop-k-test.true c.index-item.is) in
+    makes-index (numbers_of c.args.vars.now) _ _ _ _ c.args.shape.now c.args.start (plans_of c.args.indices.now) c.in_ok-entry.entry.now c.loop-k.entries.now c.in_ok-entry.rest.now (plan_of c.index-item.result) _ _ _ _ _
+    c.loop-k.invariant c.in_ok-entry.ensures.cases.0 left c.in_ok-index.ensures c.in_ok-rank.ensures

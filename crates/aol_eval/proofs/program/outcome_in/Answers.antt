@@ -1,7 +1,7 @@
 use Rattle.std.proofs.Common.{rules, ◌<◌, length, refl, sym, ◌≡◌, w64, FitsSigned, arith}
 use Rattle.std.proofs.lemmas.Int.{to_z-of_z}
 use Rattle.aol_eval.proofs.Programs.{follows-more, follows-all}
-use Rattle.aol_eval.proofs.program.outcome_of.Goals as goal
+use Rattle.aol_eval.proofs.program.outcome_in.Goals as goal
 
 pub loop-k-preserved : goal.loop-k-preserved
 loop-k-preserved c =

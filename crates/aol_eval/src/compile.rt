@@ -1,9 +1,9 @@
 //! Programs of steps whose sums are short: these are written out term by term.
 
-ghost use Rattle.std.specs.Prelude.{◌∷◌, pos, length, IfSome};
+ghost use Rattle.std.specs.Prelude.{◌≡◌, ℕ, ℤ, List, ◌∷◌, pos, length, IfSome};
 ghost use Rattle.aol_expr_tree.specs.Meaning.{applied};
 ghost use Rattle.aol_eval.specs.Frames.{numbers_of};
-ghost use Rattle.aol_eval.specs.Programs.{operand_value, element_after, next_rank, Computes, IsKnown, Makes, Pushes};
+ghost use Rattle.aol_eval.specs.Programs.{operand_value, operation_value, element_after, next_rank, Computes, IsKnown, Makes, Pushes};
 ghost use Rattle.aol_eval.specs.Resolved.{element_at, plan_of, plans_of, run, series};
 
 use crate::arithmetic::apply;
@@ -29,6 +29,18 @@ fn push(operations: &mut Items<Operation>, operation: Operation) -> Option<Opera
     Some(Operand::Given(count))
 }
 
+/// The operation of an operator.
+fn operation_of(op: ExprOp, left: Operand, right: Operand) -> Operation
+    ensures { (nums : List ℤ) (at : List ℕ) (given : List ℤ) → operation_value nums at given result ≡ applied op (operand_value nums given left) (operand_value nums given right) }
+{
+    match op {
+        ExprOp::Add => Operation::Add(left, right),
+        ExprOp::Sub => Operation::Subtract(left, right),
+        ExprOp::Mul => Operation::Multiply(left, right),
+        _ => Operation::Apply(op, left, right),
+    }
+}
+
 /// An operator at two operands; at two numbers it is computed at once.
 fn apply_to(
     operations: &mut Items<Operation>,
@@ -38,13 +50,13 @@ fn apply_to(
 ) -> Option<Operand>
     requires left { IsKnown (length operations.old) left }
     requires right { IsKnown (length operations.old) right }
-    ensures { IfSome result (Makes operations.old operations.new (λ nums at given. applied op (operand_value nums at given left) (operand_value nums at given right))) }
+    ensures { IfSome result (Makes operations.old operations.new (λ nums at given. applied op (operand_value nums given left) (operand_value nums given right))) }
 {
     match (left, right) {
         (Operand::Number(left), Operand::Number(right)) => {
             Some(Operand::Number(apply(op, left, right).ok()?))
         }
-        _ => push(operations, Operation::Apply(op, left, right)),
+        _ => push(operations, operation_of(op, left, right)),
     }
 }
 
@@ -57,7 +69,7 @@ fn rank_to(
 ) -> Option<Operand>
     requires rank { IsKnown (length operations.old) rank }
     requires index { IsKnown (length operations.old) index }
-    ensures { IfSome result (Makes operations.old operations.new (λ nums at given. next_rank entry (operand_value nums at given rank) (operand_value nums at given index))) }
+    ensures { IfSome result (Makes operations.old operations.new (λ nums at given. next_rank entry (operand_value nums given rank) (operand_value nums given index))) }
 {
     match (rank, index) {
         (Operand::Number(rank), Operand::Number(index)) => {
@@ -77,7 +89,7 @@ fn element_to(
 ) -> Option<Operand>
     requires rank { IsKnown (length operations.old) rank }
     requires index { IsKnown (length operations.old) index }
-    ensures { IfSome result (Makes operations.old operations.new (λ nums at given. element_after start nums entry (operand_value nums at given rank) (operand_value nums at given index))) }
+    ensures { IfSome result (Makes operations.old operations.new (λ nums at given. element_after start nums entry (operand_value nums given rank) (operand_value nums given index))) }
 {
     match (rank, index) {
         (Operand::Number(rank), Operand::Number(index)) => {
@@ -99,7 +111,7 @@ fn operand_of<'v>(
 {
     match step {
         Step::Num(number) => Some(Operand::Number(*number)),
-        Step::Index(k) => Some(Operand::Entry(*k)),
+        Step::Index(k) => push(operations, Operation::Entry(*k)),
         Step::Var(depth) => Some(Operand::Number(vars.value(*depth))),
         Step::Read(shape, start, indices) => {
             read_operand(shape, *start, indices, vars, operations)
@@ -166,7 +178,7 @@ fn sum_operand<'v>(
     let mut sum = Operand::Number(0);
     for k in 0..terms {
         let z = term_operand(k, term, vars, operations)?;
-        sum = push(operations, Operation::Apply(ExprOp::Add, sum, z))?;
+        sum = push(operations, Operation::Add(sum, z))?;
     }
     Some(sum)
 }

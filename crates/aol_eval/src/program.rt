@@ -1,7 +1,7 @@
 //! Programs: operations one after another, without names, sums or branches.
 
 ghost use Rattle.std.specs.Prelude.{◌≡◌, ◌≤◌, ◌+◌, length, Ok, IfSome, nat_abs};
-ghost use Rattle.aol_expr_tree.specs.Meaning.{applied, nth_number};
+ghost use Rattle.aol_expr_tree.specs.Meaning.{nth_number};
 ghost use Rattle.aol_eval.specs.Programs.{next_rank, operand_value, operation_value, Yields};
 
 use crate::arithmetic::{add, apply, multiply, subtract};
@@ -18,18 +18,21 @@ const SMALL: usize = 6;
 /// What an operation is applied to.
 #[derive(Clone, Copy)]
 pub(crate) enum Operand {
-    Number(i64),
-    /// `$k`.
-    Entry(u32),
-    /// The number with this rank in the patterns.
-    Place(usize),
     /// What the operation with this number gave.
     Given(usize),
+    /// The number with this rank in the patterns.
+    Place(usize),
+    Number(i64),
 }
 
 /// One step of a program.
 #[derive(Clone, Copy, Drop)]
 pub(crate) enum Operation {
+    /// `$k`.
+    Entry(u32),
+    Add(Operand, Operand),
+    Subtract(Operand, Operand),
+    Multiply(Operand, Operand),
     Apply(ExprOp, Operand, Operand),
     /// The second where the first isn't 0, else the third.
     Choose(Operand, Operand, Operand),
@@ -49,14 +52,13 @@ pub(crate) struct Program {
 impl Operand {
     /// Its number.
     #[inline(always)]
-    fn number(self, nums: &[i64], at: &[u32], given: &[i64]) -> i64
-        ensures { result ≡ operand_value nums.now at.now given.now self }
+    fn number(self, nums: &[i64], given: &[i64]) -> i64
+        ensures { result ≡ operand_value nums.now given.now self }
     {
         match self {
-            Operand::Number(number) => number,
-            Operand::Entry(k) => entry(at, k),
-            Operand::Place(k) => nth(nums, k),
             Operand::Given(k) => nth(given, k),
+            Operand::Place(k) => nth(nums, k),
+            Operand::Number(number) => number,
         }
     }
 }
@@ -68,19 +70,6 @@ fn nth(nums: &[i64], rank: usize) -> i64
     ensures { result ≡ nth_number nums.now rank }
 {
     nums.get(rank).copied().unwrap_or(0)
-}
-
-/// An operator at two numbers, where it is no fault; sums, differences and products need no call.
-#[inline(always)]
-fn applied_to(op: ExprOp, left: i64, right: i64) -> Option<i64>
-    ensures { IfSome result (λ z. applied op left right ≡ Ok z) }
-{
-    match op {
-        ExprOp::Add => add(left, right).ok(),
-        ExprOp::Sub => subtract(left, right).ok(),
-        ExprOp::Mul => multiply(left, right).ok(),
-        _ => apply(op, left, right).ok(),
-    }
 }
 
 /// The rank with one more index, where the index is below the entry.
@@ -110,26 +99,32 @@ fn given_by(operation: Operation, nums: &[i64], at: &[u32], given: &[i64]) -> Op
     ensures { IfSome result (λ z. operation_value nums.now at.now given.now operation ≡ Ok z) }
 {
     match operation {
+        Operation::Entry(k) => Some(entry(at, k)),
+        Operation::Add(left, right) => add(left.number(nums, given), right.number(nums, given)).ok(),
+        Operation::Subtract(left, right) => {
+            subtract(left.number(nums, given), right.number(nums, given)).ok()
+        }
+        Operation::Multiply(left, right) => {
+            multiply(left.number(nums, given), right.number(nums, given)).ok()
+        }
         Operation::Apply(op, left, right) => {
-            let left = left.number(nums, at, given);
-            let right = right.number(nums, at, given);
-            applied_to(op, left, right)
+            apply(op, left.number(nums, given), right.number(nums, given)).ok()
         }
         Operation::Choose(condition, then, otherwise) => {
-            if condition.number(nums, at, given) != 0 {
-                Some(then.number(nums, at, given))
+            if condition.number(nums, given) != 0 {
+                Some(then.number(nums, given))
             } else {
-                Some(otherwise.number(nums, at, given))
+                Some(otherwise.number(nums, given))
             }
         }
         Operation::Rank(rank, entry, index) => {
-            let rank = rank.number(nums, at, given);
-            let index = index.number(nums, at, given);
+            let rank = rank.number(nums, given);
+            let index = index.number(nums, given);
             rank_with(rank, entry, index)
         }
         Operation::Element(start, rank, entry, index) => {
-            let rank = rank.number(nums, at, given);
-            let index = index.number(nums, at, given);
+            let rank = rank.number(nums, given);
+            let index = index.number(nums, given);
             number_after(nums, start, rank_with(rank, entry, index)?)
         }
     }
@@ -146,7 +141,7 @@ fn outcome_in(program: &Program, nums: &[i64], at: &[u32], given: &mut [i64]) ->
         let z = given_by(operations[k], nums, at, &given[..k])?;
         given[k] = z;
     }
-    Some(program.value.number(nums, at, given))
+    Some(program.value.number(nums, given))
 }
 
 /// The value of a program, where none of its operations is a fault.

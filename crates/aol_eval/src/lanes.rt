@@ -24,7 +24,7 @@ pub(crate) const WIDTH: usize = 128;
 
 /// The variables around a step in lanes, the innermost first.
 #[derive(Clone, Copy)]
-enum Lanes<'a> {
+pub(crate) enum Lanes<'a> {
     /// The variable that has consecutive values, and those around it.
     Own(&'a Frame<'a>),
     /// The variable of a sum inside, with one value in all lanes.
@@ -80,7 +80,7 @@ fn line_of<'v>(step: &Step, at: &[u32], lanes: &'v Lanes<'v>, from: u32) -> Opti
 }
 
 /// The ranks of the elements at the indices, where each index is a line that stays below its entry.
-fn ranks_of<'v>(
+pub(crate) fn ranks_of<'v>(
     shape: &Option<Shape>,
     indices: &Items<Step>,
     at: &[u32],

@@ -16,6 +16,7 @@ mod lanes;
 mod lines;
 mod pattern;
 mod place;
+mod products;
 mod program;
 mod resolution;
 mod resolve;

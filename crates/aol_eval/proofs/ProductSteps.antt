@@ -1,8 +1,8 @@
 -- Sums of products, term by term.
-use Rattle.std.proofs.Common.{◌≡◌, ℕ, zero, suc, ◌+◌, ◌<◌, ℤ, pos, List, Result, Ok, arith, refl, ◌∙◌, ap, add-zero, add-suc, add-one}
+use Rattle.std.proofs.Common.{◌≡◌, ℕ, zero, suc, ◌+◌, ◌<◌, ℤ, pos, List, Result, Ok, arith, refl, add-zero, add-suc, add-one}
 use Rattle.aol_expr_tree.specs.declared.op.ExprOp.TheVariants.{Mul}
 use Rattle.aol_expr_tree.specs.declared.value.Kind.{Kind}
-use Rattle.aol_expr_tree.specs.Meaning.{◌>>=◌, applied, nth_number, summed}
+use Rattle.aol_expr_tree.specs.Meaning.{applied, nth_number, summed}
 use Rattle.aol_eval.specs.declared.lines.Ranks.{Ranks}
 use Rattle.aol_eval.specs.Lines.{rank_in_lane}
 use Rattle.aol_eval.specs.Products.{dotted, with_product}

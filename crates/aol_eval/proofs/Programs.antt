@@ -117,7 +117,7 @@ pub record MakesRank (old new : List Operation) (vars : List ℤ) (shape : Optio
   pub known : IsKnown (length new) rank
   pub above : (nums : List ℤ) (at : List ℕ) (given : List ℤ) → Follows new nums at given → operand_value nums given rank ≡ pos (nat_abs (operand_value nums given rank))
   pub reads : (nums : List ℤ) (at : List ℕ) (given : List ℤ) → Follows new nums at given
-    → run nums at vars (element_at shape start indices) ≡ read_on nums at vars start entries (nat_abs (operand_value nums given rank)) left
+      → run nums at vars (element_at shape start indices) ≡ read_on nums at vars start entries (nat_abs (operand_value nums given rank)) left
 
 -- what follows longer operations follows the shorter ones
 abbrev follows-kept : {old new : List Operation} {f : List ℤ → List ℕ → List ℤ → Result ℤ Kind} {s : Operand} → Makes old new f s → (nums : List ℤ) (at : List ℕ) (given : List ℤ) → Follows new nums at given → Follows old nums at given

@@ -1,5 +1,5 @@
 -- What a program computes: operations one after another, whose operands are what earlier operations gave, numbers of the patterns, and numbers.
-use Rattle.std.specs.Prelude.{◌≡◌, ℕ, ◌+◌, ◌<◌, ◌≤◌, ℤ, pos, negsuc, ◌+ℤ◌, ◌*ℤ◌, nat_abs, nat_lt, List, [], ◌∷◌, ◌++◌, take, length, Option, Some, Result, Ok, Err, slice_index, slice_get, if◌then◌else◌}
+use Rattle.std.specs.Prelude.{◌≡◌, ℕ, ◌+◌, ◌<◌, ◌≤◌, ℤ, pos, negsuc, ◌+ℤ◌, ◌*ℤ◌, nat_abs, nat_lt, List, [], ◌∷◌, ◌++◌, take, length, Some, Result, Ok, Err, slice_index, slice_get, if◌then◌else◌}
 use Rattle.aol_expr_tree.specs.declared.value.Kind.{Kind}
 use Rattle.aol_expr_tree.specs.declared.value.Kind.TheVariants.{Index}
 use Rattle.aol_expr_tree.specs.Meaning.{◌>>=◌, applied, is_zero, nth_number}

@@ -193,11 +193,7 @@ fn term_operand<'v>(
 ) -> Option<Operand>
     ensures { IfSome result (Makes operations.old operations.new (λ nums at given. run nums at (pos k ∷ numbers_of vars.now) (plan_of term.now))) }
 {
-    operand_of(
-        term,
-        &Frame::Inside(i64::from(k), vars),
-        operations,
-    )
+    operand_of(term, &Frame::Inside(i64::from(k), vars), operations)
 }
 
 /// The program of a step outside any sum, where its sums are short and its operations few.

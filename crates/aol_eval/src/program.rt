@@ -100,7 +100,10 @@ fn given_by(operation: Operation, nums: &[i64], at: &[u32], given: &[i64]) -> Op
 {
     match operation {
         Operation::Entry(k) => Some(entry(at, k)),
-        Operation::Add(left, right) => add(left.number(nums, given), right.number(nums, given)).ok(),
+        Operation::Add(left, right) => add(
+            left.number(nums, given),
+            right.number(nums, given),
+        ).ok(),
         Operation::Subtract(left, right) => {
             subtract(left.number(nums, given), right.number(nums, given)).ok()
         }

@@ -1,4 +1,4 @@
-use Rattle.std.proofs.Common.{rules, refl, ◌≡◌, ◌+◌, ◌∙◌, ◌∷◌, ◌<◌, [], ap, subst, sym, arith, drop, length, List, Some}
+use Rattle.std.proofs.Common.{rules, refl, ◌≡◌, ◌+◌, ◌∙◌, [], ap, subst, sym, arith, Some}
 use Rattle.aol_eval.specs.Frames.{numbers_of}
 use Rattle.aol_eval.specs.Programs.{Makes}
 use Rattle.aol_eval.specs.Resolved.{Plan, plan_of, plans_of, level_plan, operation, choice, entry}

@@ -1,8 +1,8 @@
-use Rattle.std.proofs.Common.{◌≡◌, ◌∷◌, drop}
+use Rattle.std.proofs.Common.{◌∷◌, drop}
 use Rattle.aol_expr_tree.specs.Meaning.{summed}
 use Rattle.aol_eval.specs.Frames.{numbers_of}
 use Rattle.aol_eval.specs.Programs.{Makes}
-use Rattle.aol_eval.specs.Resolved.{plan_of, plans_of, run, element_at}
+use Rattle.aol_eval.specs.Resolved.{plan_of, plans_of, run}
 use Rattle.aol_eval.proofs.Programs.{MakesRank}
 use Rattle.aol_eval.proofs.compile.+compile.Given as goal
 

@@ -1,4 +1,4 @@
-use Rattle.std.proofs.Common.{◌≡◌, ◌+◌, ◌<◌, ◌∙◌, ◌∷◌, refl, sym, ℕ, ℤ, pos, Ok, Result, rules, w64, FitsSigned}
+use Rattle.std.proofs.Common.{◌≡◌, ◌+◌, ◌<◌, ◌∙◌, ◌∷◌, refl, sym, ℕ, ℤ, pos, Ok, Result, w64, FitsSigned}
 use Rattle.std.proofs.lemmas.Int.{to_z-of_z}
 use Rattle.aol_expr_tree.specs.declared.op.ExprOp.TheVariants.{Mul}
 use Rattle.aol_expr_tree.specs.declared.value.Kind.{Kind}
@@ -18,8 +18,8 @@ returns c =
     let fits : FitsSigned w64 c.args.sum = c.ranges.sum in
     let each : (i : ℕ) → i < c.args.count → term (pos (c.args.from + i)) ≡ applied Mul (nth_number left.nums.now (rank_in_lane left.ranks i)) (nth_number right.nums.now (rank_in_lane right.ranks i))
     = λ i below.
-        let first : run c.args.nums.now c.args.at.now (pos (c.args.from + i) ∷ numbers_of c.args.vars.now) (plan_of c.args.left.now) ≡ Ok (nth_number left.nums.now (rank_in_lane left.ranks i)) = c.in_ok-left.ensures i below in
-        let second : run c.args.nums.now c.args.at.now (pos (c.args.from + i) ∷ numbers_of c.args.vars.now) (plan_of c.args.right.now) ≡ Ok (nth_number right.nums.now (rank_in_lane right.ranks i)) = c.in_ok-right.ensures i below in
-        rw (first, second) refl in
+    let first : run c.args.nums.now c.args.at.now (pos (c.args.from + i) ∷ numbers_of c.args.vars.now) (plan_of c.args.left.now) ≡ Ok (nth_number left.nums.now (rank_in_lane left.ranks i)) = c.in_ok-left.ensures i below in
+    let second : run c.args.nums.now c.args.at.now (pos (c.args.from + i) ∷ numbers_of c.args.vars.now) (plan_of c.args.right.now) ≡ Ok (nth_number right.nums.now (rank_in_lane right.ranks i)) = c.in_ok-right.ensures i below in
+    rw (first, second) refl in
     if_some-map c.dot.result
     (λ total is. dotted-summed term left.nums.now right.nums.now left.ranks right.ranks c.args.from c.args.sum c.args.count (sym c.requires.sum) each ∙ is) (simp (to_z-of_z w64) at c.dot.ensures)

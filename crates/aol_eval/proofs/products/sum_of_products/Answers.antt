@@ -1,5 +1,4 @@
 use Rattle.std.proofs.Common.{◌≡◌, ◌∙◌, ap}
-use Rattle.aol_expr_tree.specs.declared.op.ExprOp.{ExprOp}
 use Rattle.aol_expr_tree.specs.declared.op.ExprOp.TheVariants.{Mul}
 use Rattle.aol_eval.specs.declared.step.Step.TheFolds.{fold_out-Step}
 use Rattle.aol_eval.specs.Resolved.{Plan, plan_of, level_plan, operation}

@@ -1,4 +1,4 @@
-use Rattle.std.proofs.Common.{rules, ◌<◌, length, refl, sym, ◌≡◌, w64, FitsSigned, arith}
+use Rattle.std.proofs.Common.{rules, ◌<◌, length, sym, w64, FitsSigned, arith}
 use Rattle.std.proofs.lemmas.Int.{to_z-of_z}
 use Rattle.aol_eval.proofs.Programs.{follows-more, follows-all}
 use Rattle.aol_eval.proofs.program.outcome_in.Goals as goal

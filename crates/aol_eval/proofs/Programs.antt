@@ -90,6 +90,16 @@ pushes-makes old new o operand computed same pushed = rw (pushed.0, pushed.1) (r
   value = λ nums at given follows. sym (same nums at given) ∙ follows (length old) o (get-last old o);
 })
 
+-- an operation that is there gives its value
+pub makes-given : (old : List Operation) (n : ℕ) (o : Operation) (computed : List ℤ → List ℕ → List ℤ → Result ℤ Kind)
+    → ((nums : List ℤ) (at : List ℕ) (given : List ℤ) → operation_value nums at (take n given) o ≡ computed nums at given) → slice_get old n ≡ Some o → Makes old old computed (Given n)
+makes-given old n o computed same found = record {
+  longer = omega arith;
+  kept = λ k q there. there;
+  known = slice_get_within old n o found;
+  value = λ nums at given follows. sym (same nums at given) ∙ follows n o found;
+}
+
 -- nothing more is needed
 pub makes-now : (old : List Operation) (computed : List ℤ → List ℕ → List ℤ → Result ℤ Kind) (operand : Operand) → IsKnown (length old) operand
     → ((nums : List ℤ) (at : List ℕ) (given : List ℤ) → computed nums at given ≡ Ok (operand_value nums given operand)) → Makes old old computed operand
@@ -192,6 +202,23 @@ module _ (vars : List ℤ) where
       either : (zero : Bool) (x y : ℤ) → (if zero then fine y else fine x) ≡ fine (if zero then y else x)
       either true x y = refl
       either false x y = refl
+
+  -- a choice whose condition is known
+  pub makes-otherwise : (a b c : List Operation) (condition l r : Plan) (z : ℤ) (s : Operand) → Makes a b (of_plan condition) (Number z) → is_zero z ≡ true → Makes b c (of_plan r) s → Makes a c (of_plan (choice condition l r)) s
+  makes-otherwise a b c condition l r z s one none two = record {
+    longer = omega (arith, one.longer, two.longer);
+    kept = λ k o found. two.kept k o (one.kept k o found);
+    known = two.known;
+    value = λ nums at given follows. rw (one.value nums at given (follows-kept two nums at given follows), none) (two.value nums at given follows);
+  }
+
+  pub makes-taken : (a b c : List Operation) (condition l r : Plan) (z : ℤ) (s : Operand) → Makes a b (of_plan condition) (Number z) → is_zero z ≡ false → Makes b c (of_plan l) s → Makes a c (of_plan (choice condition l r)) s
+  makes-taken a b c condition l r z s one some two = record {
+    longer = omega (arith, one.longer, two.longer);
+    kept = λ k o found. two.kept k o (one.kept k o found);
+    known = two.known;
+    value = λ nums at given follows. rw (one.value nums at given (follows-kept two nums at given follows), some) (two.value nums at given follows);
+  }
 
   -- one more term of a sum
   pub makes-term : (a b c d : List Operation) (term : Plan) (k : ℕ) (p q s : Operand) → Makes a b (λ nums at given. summed (λ z. run nums at (z ∷ vars) term) k) p

@@ -1,7 +1,7 @@
 //! Programs of steps whose sums are short: these are written out term by term.
 
-ghost use Rattle.std.specs.Prelude.{◌≡◌, ℕ, ℤ, List, ◌∷◌, pos, length, IfSome};
-ghost use Rattle.aol_expr_tree.specs.Meaning.{applied};
+ghost use Rattle.std.specs.Prelude.{◌≡◌, ℕ, ℤ, List, ◌∷◌, pos, length, slice_get, slice_index, Some, Ok, IfSome};
+ghost use Rattle.aol_expr_tree.specs.Meaning.{applied, is_zero};
 ghost use Rattle.aol_eval.specs.Frames.{numbers_of};
 ghost use Rattle.aol_eval.specs.Programs.{operand_value, operation_value, element_after, next_rank, Computes, IsKnown, Makes, Pushes};
 ghost use Rattle.aol_eval.specs.Resolved.{element_at, plan_of, plans_of, run, series};
@@ -15,7 +15,7 @@ use aol_shape::{Items, Shape};
 use std::alloc::Global;
 
 /// The most terms of a sum that is written out.
-const SHORT: u32 = 16;
+const SHORT: u32 = 9;
 
 /// Adds an operation, where there is room for it, and says what it gives.
 fn push(operations: &mut Items<Operation>, operation: Operation) -> Option<Operand>
@@ -100,6 +100,36 @@ fn element_to(
     }
 }
 
+fn equals_zero(number: i64) -> bool
+    ensures { result ≡ is_zero number }
+{
+    number == 0
+}
+
+/// The first operation that gives `$k`.
+fn entry_in(operations: &[Operation], k: u32) -> Option<usize>
+    ensures { IfSome result (λ number. slice_get operations.now number ≡ Some (Operation.Entry k)) }
+{
+    for (number, operation) in operations.iter().enumerate() {
+        if let Operation::Entry(entry) = operation {
+            if *entry == k {
+                return Some(number);
+            }
+        }
+    }
+    None
+}
+
+/// `$k`, by the operation that gives it already, if there is one.
+fn entry_to(operations: &mut Items<Operation>, k: u32) -> Option<Operand>
+    ensures { IfSome result (Makes operations.old operations.new (λ nums at given. Ok (pos (slice_index at k)))) }
+{
+    match entry_in(operations.as_slice(), k) {
+        Some(number) => Some(Operand::Given(number)),
+        None => push(operations, Operation::Entry(k)),
+    }
+}
+
 /// What a step computes, where its operations have room.
 #[cycle(compile)]
 fn operand_of<'v>(
@@ -111,7 +141,7 @@ fn operand_of<'v>(
 {
     match step {
         Step::Num(number) => Some(Operand::Number(*number)),
-        Step::Index(k) => push(operations, Operation::Entry(*k)),
+        Step::Index(k) => entry_to(operations, *k),
         Step::Var(depth) => Some(Operand::Number(vars.value(*depth))),
         Step::Read(shape, start, indices) => {
             read_operand(shape, *start, indices, vars, operations)
@@ -123,6 +153,13 @@ fn operand_of<'v>(
         }
         Step::If(condition, then, otherwise) => {
             let condition = operand_of(condition, vars, operations)?;
+            if let Operand::Number(known) = condition {
+                return if equals_zero(known) {
+                    operand_of(otherwise, vars, operations)
+                } else {
+                    operand_of(then, vars, operations)
+                };
+            }
             let then = operand_of(then, vars, operations)?;
             let otherwise = operand_of(otherwise, vars, operations)?;
             push(operations, Operation::Choose(condition, then, otherwise))

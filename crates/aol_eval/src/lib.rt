@@ -2,7 +2,7 @@
 //!
 //! Read `eval` first, whose value is that of `aol_expr_tree`'s `specs/Meaning.antt`, then `Resolved`.
 //!
-//! A small expression whose sums are short is compiled to a program of at most 32 operations (`compile`), which runs
+//! A small expression whose sums are short is compiled to a program of at most 128 operations (`compile`), which runs
 //! without recursion (`program`); where an operation is a fault, the steps are evaluated instead (`run`), and tell which
 //! fault is the first.
 //!

@@ -10,10 +10,13 @@ use aol_expr_tree::ExprOp;
 use aol_shape::Items;
 
 /// The most operations of a program.
-pub(crate) const LONGEST: usize = 32;
+pub(crate) const LONGEST: usize = 128;
 
 /// How many operations need only a little room.
 const SMALL: usize = 6;
+
+/// How many need more.
+const MIDDLE: usize = 32;
 
 /// What an operation is applied to.
 #[derive(Clone, Copy)]
@@ -154,6 +157,8 @@ pub(crate) fn outcome_of(program: &Program, nums: &[i64], at: &[u32]) -> Option<
     let count = program.operations.len();
     if count <= SMALL {
         outcome_in(program, nums, at, &mut [0i64; SMALL])
+    } else if count <= MIDDLE {
+        outcome_in(program, nums, at, &mut [0i64; MIDDLE])
     } else if count <= LONGEST {
         outcome_in(program, nums, at, &mut [0i64; LONGEST])
     } else {

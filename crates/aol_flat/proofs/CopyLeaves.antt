@@ -173,7 +173,7 @@ split_rest m leaf at t spot s j k n is many long = omega (arith, copy_long (spac
 
 module _ (m : Model) (sound : IsSound m) (leaf : ℕ) (at : List ℕ) (number : ℕ) (c : Compound) (copied : Copied) (around r i : List ℕ) (h : IsLeafCopy m leaf at number c copied around r i) (l : Leaf)
     (listed : slice_get (leaves m) leaf ≡ Some l) where
-  up : Place
+  abbrev up : Place
   up = place_on h.place.node around
 
   instance_is : instance_on l at ≡ Copy up h.place.reshape r i

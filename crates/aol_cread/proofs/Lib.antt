@@ -1,0 +1,5 @@
+pub mod Formats
+pub mod Counts
+pub mod Values
+pub mod Exprs
+

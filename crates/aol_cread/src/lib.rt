@@ -1,0 +1,4 @@
+//! The text of a program of the emitted subset of C, read.
+#![tactic(auto)]
+
+mod bytes;

@@ -2,4 +2,5 @@ pub mod Formats
 pub mod Counts
 pub mod Values
 pub mod Exprs
+pub mod OneLine
 

@@ -1,4 +1,6 @@
 //! The text of a program of the emitted subset of C, read.
 #![tactic(auto)]
 
+mod building;
 mod bytes;
+mod line;

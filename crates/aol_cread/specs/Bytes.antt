@@ -101,14 +101,18 @@ abbrev pub read_bin : (List ℕ → Read Expr) → List ℕ → Read Expr
 read_bin operand t =
     option_and_then (λ (a, r). option_and_then (λ (op, q). mapped (bin op a) (before operand (codes ")")) q) (read_op r)) (operand t)
 
+-- an expression, with a reader for the expressions inside it
+abbrev pub read_deeper : (List ℕ → Read Expr) → List ℕ → Read Expr
+read_deeper inner t =
+    choose (expect (codes "a") t) (mapped (λ k. var k) (read_count (2 ^ 32)))
+    (choose (expect (codes "V[") t) (mapped (λ e. cell_v e) (before inner (codes "]")))
+    (choose (expect (codes "F[") t) (mapped (λ e. cell_f e) (before inner (codes "]")))
+    (choose (expect (codes "T") t) (mapped (λ (k, e). tab k e) (before (between (read_count (2 ^ 32)) (codes "[") inner) (codes "]")))
+    (choose (expect (codes "(-") t) (mapped (λ z. num z) read_negative)
+    (choose (expect (codes "(") t) (read_bin inner)
+    (mapped (λ z. num z) read_positive t))))))
+
 -- an expression of at most so many levels
 unfoldable pub read_expr : ℕ → List ℕ → Read Expr
 read_expr zero t = None
-read_expr (suc room) t =
-    choose (expect (codes "a") t) (mapped (λ k. var k) (read_count (2 ^ 32)))
-    (choose (expect (codes "V[") t) (mapped (λ e. cell_v e) (before (read_expr room) (codes "]")))
-    (choose (expect (codes "F[") t) (mapped (λ e. cell_f e) (before (read_expr room) (codes "]")))
-    (choose (expect (codes "T") t) (mapped (λ (k, e). tab k e) (before (between (read_count (2 ^ 32)) (codes "[") (read_expr room)) (codes "]")))
-    (choose (expect (codes "(-") t) (mapped (λ z. num z) read_negative)
-    (choose (expect (codes "(") t) (read_bin (read_expr room))
-    (mapped (λ z. num z) read_positive t))))))
+read_expr (suc room) t = read_deeper (read_expr room) t

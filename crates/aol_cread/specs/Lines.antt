@@ -85,6 +85,26 @@ for_of (k, (a, (l, (b, (m, n))))) r = if k == l && k == m && k == n then found (
 abbrev pub read_for : List ℕ → Read Line
 read_for t = option_and_then (λ (p, r). for_of p r) (read_for_parts t)
 
+-- a line before the steps, or the first line of `run`
+abbrev pub read_outer : List ℕ → Read Line
+read_outer t =
+    choose (expect (codes "static const i64 T") t) read_table
+    (choose (expect (codes "i64 V[") t) (mapped (λ c. v_line c) (before read_small (codes "];\n")))
+    (choose (expect (codes "i64 F[") t) (mapped (λ c. f_line c) (before read_small (codes "];\n")))
+    (choose (expect (codes "/* AOL-C/1 */\n") t) (found head_line)
+    (choose (expect (codes "typedef long long i64;\n") t) (found type_line)
+    (choose (expect (codes "void run(void) {\n") t) (found run_line) None)))))
+
+-- a line round statements, or one before the steps
+abbrev pub read_round : List ℕ → Read Line
+read_round t =
+    choose (expect (codes "}\n") t) (found close_line)
+    (choose (expect (codes "} else {\n") t) (found else_line)
+    (choose (expect (codes "i64 a") t) (mapped (λ k. var_line k) (before read_small (codes " = 0LL;\n")))
+    (choose (expect (codes "void step_") t) (mapped (λ (l, w). step_line l w) (between read_small (codes "_") (before read_small (codes "(void) {\n"))))
+    (choose (expect (codes "step_") t) (mapped (λ (l, w). call_line l w) (between read_small (codes "_") (before read_small (codes "();\n"))))
+    (read_outer t)))))
+
 -- one line, with expressions of at most so many levels
 unfoldable pub read_line : ℕ → List ℕ → Read Line
 read_line room t =
@@ -93,14 +113,4 @@ read_line room t =
     (choose (expect (codes "F[") t) (mapped (λ (at, e). put_f_line at e) (between (read_expr room) (codes "] = ") (before (read_expr room) (codes ";\n"))))
     (choose (expect (codes "if (") t) (mapped (λ e. if_line e) (before (read_expr room) (codes ") {\n")))
     (choose (expect (codes "for (a") t) read_for
-    (choose (expect (codes "}\n") t) (found close_line)
-    (choose (expect (codes "} else {\n") t) (found else_line)
-    (choose (expect (codes "i64 a") t) (mapped (λ k. var_line k) (before read_small (codes " = 0LL;\n")))
-    (choose (expect (codes "void step_") t) (mapped (λ (l, w). step_line l w) (between read_small (codes "_") (before read_small (codes "(void) {\n"))))
-    (choose (expect (codes "step_") t) (mapped (λ (l, w). call_line l w) (between read_small (codes "_") (before read_small (codes "();\n"))))
-    (choose (expect (codes "static const i64 T") t) read_table
-    (choose (expect (codes "i64 V[") t) (mapped (λ c. v_line c) (before read_small (codes "];\n")))
-    (choose (expect (codes "i64 F[") t) (mapped (λ c. f_line c) (before read_small (codes "];\n")))
-    (choose (expect (codes "/* AOL-C/1 */\n") t) (found head_line)
-    (choose (expect (codes "typedef long long i64;\n") t) (found type_line)
-    (choose (expect (codes "void run(void) {\n") t) (found run_line) None)))))))))))))))
+    (read_round t)))))

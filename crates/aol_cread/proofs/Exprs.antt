@@ -97,11 +97,10 @@ module _ (room : ℕ) where
         (sound_form (before (read_expr room) (codes "]")) (λ e r. expr_onto e (codes "]" ++ r)) (Sized room) (λ e. cell_v e) expr_onto S (codes "V[") (λ e r. sym (text_cell_v e r)) sized_v (closed (codes "]")))
         (sound_choose (mapped (λ e. cell_f e) (before (read_expr room) (codes "]"))) expr_onto S (codes "F[") _
         (sound_form (before (read_expr room) (codes "]")) (λ e r. expr_onto e (codes "]" ++ r)) (Sized room) (λ e. cell_f e) expr_onto S (codes "F[") (λ e r. sym (text_cell_f e r)) sized_f (closed (codes "]")))
-        (sound_choose (mapped (λ (p : ℕ × Expr). tab p.0 p.1) (before (between (read_count (2 ^ 32)) (codes "[") (read_expr room)) (codes "]"))) expr_onto S (codes "T") _
-        (sound_form (before (between (read_count (2 ^ 32)) (codes "[") (read_expr room)) (codes "]")) (λ (p : ℕ × Expr) r. decimal p.0 ++ (codes "[" ++ (expr_text p.1 ++ (codes "]" ++ r)))) (λ (p : ℕ × Expr). Small p.0 × Sized room p.1)
+        (sound_choose (mapped (λ (p : ℕ × Expr). tab p.0 p.1) (between (read_count (2 ^ 32)) (codes "[") (before (read_expr room) (codes "]")))) expr_onto S (codes "T") _
+        (sound_form (between (read_count (2 ^ 32)) (codes "[") (before (read_expr room) (codes "]"))) (λ (p : ℕ × Expr) r. decimal p.0 ++ (codes "[" ++ (expr_text p.1 ++ (codes "]" ++ r)))) (λ (p : ℕ × Expr). Small p.0 × Sized room p.1)
         (λ (p : ℕ × Expr). tab p.0 p.1) expr_onto S (codes "T") (λ p r. sym (text_tab p.0 p.1 r)) sized_tab
-        (sound_before (between (read_count (2 ^ 32)) (codes "[") (read_expr room)) (λ (p : ℕ × Expr) r. decimal p.0 ++ (codes "[" ++ (expr_text p.1 ++ r))) (λ (p : ℕ × Expr). Small p.0 × Sized room p.1) (codes "]")
-        (sound_between (read_count (2 ^ 32)) (read_expr room) counts_onto expr_onto Small (Sized room) (codes "[") (sound_count (2 ^ 32) (omega arith) (omega arith)) own)))
+        (sound_between (read_count (2 ^ 32)) (before (read_expr room) (codes "]")) counts_onto (λ e r. expr_text e ++ (codes "]" ++ r)) Small (Sized room) (codes "[") (sound_count (2 ^ 32) (omega arith) (omega arith)) (closed (codes "]"))))
         (sound_choose (mapped (λ z. num z) read_negative) expr_onto S (codes "(-") _
         (sound_joined read_negative number_onto Fits (λ z. num z) expr_onto S (codes "(-") (λ z r. refl) sized_num sound_negative)
         (sound_choose (read_bin (read_expr room)) expr_onto S (codes "(") _ bin_spelled
@@ -217,11 +216,9 @@ module _ (room : ℕ) where
   unfolding read_expr expect
   back_tab k e r h own =
       let rest = expr_text e ++ (93 ∷ r) in
-      let pair : ℕ × Expr = (k, e) in
-      let both : between (read_count (2 ^ 32)) (codes "[") (read_expr room) (decimal k ++ (91 ∷ rest)) ≡ Some (pair, 93 ∷ r) =
-      ap (option_and_then (λ (p : ℕ × List ℕ). option_map (λ (q : Expr × List ℕ). ((p.0, q.0), q.1)) (after (codes "[") (read_expr room) p.1))) (complete_count (2 ^ 32) (omega arith) k (91 ∷ rest) h refl)
-      ∙ ap (option_map (λ (q : Expr × List ℕ). ((k, q.0), q.1))) (own (93 ∷ r) refl) in
-      ap (λ (o : Read (ℕ × Expr)). option_map (λ (p : (ℕ × Expr) × List ℕ). (tab p.0.0 p.0.1, p.1)) (option_and_then (λ (p : (ℕ × Expr) × List ℕ). option_map (λ (q : List ℕ). (p.0, q)) (expect (codes "]") p.1)) o)) both
+      ap (λ (o : Read ℕ). option_map (λ (p : (ℕ × Expr) × List ℕ). (tab p.0.0 p.0.1, p.1)) (option_and_then (λ (p : ℕ × List ℕ). option_map (λ (q : Expr × List ℕ). ((p.0, q.0), q.1)) (after (codes "[") (before (read_expr room) (codes "]")) p.1)) o))
+      (complete_count (2 ^ 32) (omega arith) k (91 ∷ rest) h refl)
+      ∙ ap (λ (o : Read Expr). option_map (λ (p : (ℕ × Expr) × List ℕ). (tab p.0.0 p.0.1, p.1)) (option_map (λ (q : Expr × List ℕ). ((k, q.0), q.1)) o)) (closed_back (codes "]") (λ r. refl) e own r)
 
   back_bin : (op : COp) (a b : Expr) (r : List ℕ) → ReadBack room a → ReadBack room b → read_bin (read_expr room) (expr_text a ++ (op_text op ++ (expr_text b ++ (41 ∷ r)))) ≡ Some (bin op a b, r)
   back_bin op a b r first second =

@@ -101,13 +101,17 @@ abbrev pub read_bin : (List ℕ → Read Expr) → List ℕ → Read Expr
 read_bin operand t =
     option_and_then (λ (a, r). option_and_then (λ (op, q). mapped (bin op a) (before operand (codes ")")) q) (read_op r)) (operand t)
 
+-- an entry of a table, after `T`
+abbrev pub read_entry : (List ℕ → Read Expr) → List ℕ → Read Expr
+read_entry inner = mapped (λ (k, e). tab k e) (between (read_count (2 ^ 32)) (codes "[") (before inner (codes "]")))
+
 -- an expression, with a reader for the expressions inside it
 abbrev pub read_deeper : (List ℕ → Read Expr) → List ℕ → Read Expr
 read_deeper inner t =
     choose (expect (codes "a") t) (mapped (λ k. var k) (read_count (2 ^ 32)))
     (choose (expect (codes "V[") t) (mapped (λ e. cell_v e) (before inner (codes "]")))
     (choose (expect (codes "F[") t) (mapped (λ e. cell_f e) (before inner (codes "]")))
-    (choose (expect (codes "T") t) (mapped (λ (k, e). tab k e) (before (between (read_count (2 ^ 32)) (codes "[") inner) (codes "]")))
+    (choose (expect (codes "T") t) (read_entry inner)
     (choose (expect (codes "(-") t) (mapped (λ z. num z) read_negative)
     (choose (expect (codes "(") t) (read_bin inner)
     (mapped (λ z. num z) read_positive t))))))

@@ -4,3 +4,4 @@ pub mod Eaten
 pub mod States
 pub mod Next
 pub mod Stored
+pub mod Parts

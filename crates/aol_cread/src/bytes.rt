@@ -6,9 +6,7 @@ ghost use Rattle.aol_cread.specs.Bytes.{Yields, before, between, expect, is_clea
 ghost use Rattle.aol_cread.specs.Eaten.{Eats};
 ghost use Rattle.aol_cread.specs.Lines.{read_small};
 
-use aol_csyn::{CExpr, COp};
-use aol_shape::NoMemory;
-use std::alloc::Global;
+use aol_csyn::COp;
 
 /// Above the greatest size of a number that is written in digits.
 const LIMIT: u64 = 1 << 63;
@@ -104,7 +102,7 @@ impl<'t> Reader<'t> {
     }
 
     /// A number from 0 up.
-    fn positive(&mut self) -> Option<i64>
+    pub(crate) fn positive(&mut self) -> Option<i64>
         ensures { Yields (read_positive self.old.left.now) result self.new.left.now }
     {
         let n = self.count(LIMIT)?;
@@ -126,7 +124,7 @@ impl<'t> Reader<'t> {
     }
 
     /// A negative number, after `(-`.
-    fn negative(&mut self) -> Option<i64>
+    pub(crate) fn negative(&mut self) -> Option<i64>
         ensures { Yields (read_negative self.old.left.now) result self.new.left.now }
     {
         let n = self.count(LIMIT)?;
@@ -143,7 +141,7 @@ impl<'t> Reader<'t> {
 
     /// An operator between two blanks.
     #[tactic(auto, unfolding(crate::specs::Bytes::read_op))]
-    fn op(&mut self) -> Option<COp>
+    pub(crate) fn op(&mut self) -> Option<COp>
         ensures { Yields (read_op self.old.left.now) result self.new.left.now }
     {
         if self.eat(b" + ") {

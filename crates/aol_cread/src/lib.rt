@@ -3,4 +3,6 @@
 
 mod building;
 mod bytes;
+mod expr;
 mod line;
+mod reading;

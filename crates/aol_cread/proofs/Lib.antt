@@ -3,4 +3,6 @@ pub mod Counts
 pub mod Values
 pub mod Exprs
 pub mod OneLine
+pub mod Loops
+pub mod Shown
 

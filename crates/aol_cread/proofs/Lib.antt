@@ -5,4 +5,6 @@ pub mod Exprs
 pub mod OneLine
 pub mod Loops
 pub mod Shown
+pub mod Places
+pub mod Sound
 

@@ -7,4 +7,5 @@ pub mod Loops
 pub mod Shown
 pub mod Places
 pub mod Sound
+pub mod Inside
 

@@ -122,31 +122,31 @@ Reached s ls = ReachedAt s.phase s ls
 
 -- ---- tests
 
-held : (b : Bool) (t u : State) → where_true b t ≡ Some u → (b ≡ true) × (t ≡ u)
+pub held : (b : Bool) (t u : State) → where_true b t ≡ Some u → (b ≡ true) × (t ≡ u)
 held true t u h = (refl, cc)
 held false t u h = absurd (cc)
 
-same_numbers : (a b : ℕ) → (a == b) ≡ true → a ≡ b
+pub same_numbers : (a b : ℕ) → (a == b) ≡ true → a ≡ b
 same_numbers a b h = grind (arith, h)
 
-below : (a b : ℕ) → nat_lt a b ≡ true → a < b
+pub below : (a b : ℕ) → nat_lt a b ≡ true → a < b
 below a b h = grind (arith, h)
 
-not_zero : (a : ℕ) → not (a == 0) ≡ true → 0 < a
+pub not_zero : (a : ℕ) → not (a == 0) ≡ true → 0 < a
 not_zero a h = grind (arith, h)
 
-is_not : (a : Bool) → not a ≡ true → a ≡ false
+pub is_not : (a : Bool) → not a ≡ true → a ≡ false
 is_not true h = absurd (cc)
 is_not false h = refl
 
-all_more : {A : Type 0} (p : A → Bool) (xs : List A) (x : A) → list_all p xs ≡ true → p x ≡ true → list_all p (xs ++ x ∷ []) ≡ true
+pub all_more : {A : Type 0} (p : A → Bool) (xs : List A) (x : A) → list_all p xs ≡ true → p x ≡ true → list_all p (xs ++ x ∷ []) ≡ true
 all_more p [] x h k = both_true (p x) true k refl
 all_more p (y ∷ xs) x h k = both_true (p y) (list_all p (xs ++ x ∷ [])) (left_true (p y) (list_all p xs) h) (all_more p xs x (right_true (p y) (list_all p xs) h) k)
 
-long_more : {A : Type 0} (xs : List A) (x : A) → length (xs ++ x ∷ []) ≡ suc (length xs)
+pub long_more : {A : Type 0} (xs : List A) (x : A) → length (xs ++ x ∷ []) ≡ suc (length xs)
 long_more xs x = let long = length-append xs (x ∷ []) in omega (arith, long)
 
-nothing_there : {A : Type 0} (xs : List A) → is_empty xs ≡ true → xs ≡ []
+pub nothing_there : {A : Type 0} (xs : List A) → is_empty xs ≡ true → xs ≡ []
 nothing_there [] h = refl
 nothing_there (x ∷ xs) h = absurd (cc)
 
@@ -157,7 +157,7 @@ table_ok numbers some few fit =
     both_true (not (length numbers == 0) && nat_lt (length numbers) (2 ^ 32)) (list_all fits_64 numbers)
     (both_true (not (length numbers == 0)) (nat_lt (length numbers) (2 ^ 32)) (grind (arith, some)) (grind (arith, few))) fit
 
-in_tables : (s t : State) (l : Line) (ls : List Line) → s.phase ≡ Tables → after_phase Tables s l ≡ Some t → FitsLine (room_in s) l → InTables s ls → Reached t (ls ++ l ∷ [])
+pub in_tables : (s t : State) (l : Line) (ls : List Line) → s.phase ≡ Tables → after_phase Tables s l ≡ Some t → FitsLine (room_in s) l → InTables s ls → Reached t (ls ++ l ∷ [])
 in_tables s t (table_line k numbers) ls is h fit r =
     let u = record s { tables = s.tables ++ numbers ∷ [] } in
     let test = held (k == length s.tables && nat_lt (k + 1) (2 ^ 32)) u t h in
@@ -184,7 +184,7 @@ in_tables s t (v_line cells) ls is h fit r =
     subst (λ x. Reached x (ls ++ v_line cells ∷ [])) test.1 here
 in_tables s t l ls is h fit r = absurd (cc)
 
-in_cells : (s t : State) (l : Line) (ls : List Line) → after_phase Celled s l ≡ Some t → InCells s ls → Reached t (ls ++ l ∷ [])
+pub in_cells : (s t : State) (l : Line) (ls : List Line) → after_phase Celled s l ≡ Some t → InCells s ls → Reached t (ls ++ l ∷ [])
 in_cells s t (f_line cells) ls h r =
     let u = record s { phase = Between } in
     let test = held (cells == s.cells) u t h in
@@ -209,7 +209,7 @@ in_cells s t l ls h r = absurd (cc)
 few_tables : (ts : List (List ℤ)) → ts ≡ [] → length ts < 2 ^ 32
 few_tables ts h = let n = ap (λ (xs : List (List ℤ)). length xs) h in omega (arith, n)
 
-at_start : (s t : State) (l : Line) (ls : List Line) → after_phase Start s l ≡ Some t → AtStart s ls [] → Reached t (ls ++ l ∷ [])
+pub at_start : (s t : State) (l : Line) (ls : List Line) → after_phase Start s l ≡ Some t → AtStart s ls [] → Reached t (ls ++ l ∷ [])
 at_start s t head_line ls h r =
     let same : record s { phase = Headed } ≡ t = cc in let none = r.none in
     let here : AtStart (record s { phase = Headed }) (ls ++ head_line ∷ []) (head_line ∷ []) =
@@ -217,7 +217,7 @@ at_start s t head_line ls h r =
     subst (λ x. Reached x (ls ++ head_line ∷ [])) same here
 at_start s t l ls h r = absurd (cc)
 
-at_second : (s t : State) (l : Line) (ls : List Line) → after_phase Headed s l ≡ Some t → AtStart s ls (head_line ∷ []) → Reached t (ls ++ l ∷ [])
+pub at_second : (s t : State) (l : Line) (ls : List Line) → after_phase Headed s l ≡ Some t → AtStart s ls (head_line ∷ []) → Reached t (ls ++ l ∷ [])
 at_second s t type_line ls h r =
     let same : record s { phase = Tables } ≡ t = cc in let none = r.none in
     let here : InTables (record s { phase = Tables }) (ls ++ type_line ∷ []) = record {

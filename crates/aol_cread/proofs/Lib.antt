@@ -8,4 +8,5 @@ pub mod Shown
 pub mod Places
 pub mod Sound
 pub mod Inside
+pub mod Complete
 

@@ -28,20 +28,20 @@ goes_on (l ∷ ls) ms s t u g h = (g.0, g.1, g.2, goes_on ls ms g.0 t u g.3 h)
 pub goes_to : (ls : List Line) (s t u : State) → t ≡ u → Goes s ls t → Goes s ls u
 goes_to ls s t u h g = subst (λ x. Goes s ls x) h g
 
-next_in : (ph : Phase) (s : State) (l : Line) (u : State) → s.phase ≡ ph → after_phase ph s l ≡ Some u → next s l ≡ Some u
+pub next_in : (ph : Phase) (s : State) (l : Line) (u : State) → s.phase ≡ ph → after_phase ph s l ≡ Some u → next s l ≡ Some u
 unfolding next
 next_in ph s l u is h = ap (λ p. after_phase p s l) is ∙ h
 
-where_holds : (b : Bool) (s : State) → b ≡ true → where_true b s ≡ Some s
+pub where_holds : (b : Bool) (s : State) → b ≡ true → where_true b s ≡ Some s
 where_holds b s h = ap (λ t. where_true t s) h
 
-under : (a b : ℕ) → a < b → nat_lt a b ≡ true
+pub under : (a b : ℕ) → a < b → nat_lt a b ≡ true
 under a b h = grind (arith, h)
 
-below : (a b : ℕ) → nat_lt a b ≡ true → a < b
+pub below : (a b : ℕ) → nat_lt a b ≡ true → a < b
 below a b h = grind (arith, h)
 
-self : (a : ℕ) → (a == a) ≡ true
+pub self : (a : ℕ) → (a == a) ≡ true
 self a = grind arith
 
 -- ---- expressions
@@ -59,28 +59,28 @@ wider (bin op a b) vars tables h k f =
 
 -- ---- statements
 
-record Open (s : State) : Type 0 where
-  phase : s.phase ≡ Inside
-  vars : s.vars < 2 ^ 32
-  tables : length s.tables < 2 ^ 32
+pub record Open (s : State) : Type 0 where
+  pub phase : s.phase ≡ Inside
+  pub vars : s.vars < 2 ^ 32
+  pub tables : length s.tables < 2 ^ 32
 
 sized : (s : State) (e : Expr) → Open s → fits_here s e ≡ true → expr_depth e + 1 + length s.frames ≤ 1024 → Sized (room_in s) e
 sized s e o f h =
     let few = o.vars in let many = o.tables in
     record { formed = wider e s.vars (length s.tables) (omega (arith, few)) (omega (arith, many)) f; depth = omega (arith, h) }
 
-abbrev list_of : Stmts → List Stmt
+abbrev pub list_of : Stmts → List Stmt
 list_of no_stmts = []
 list_of (stmt_and st rest) = st ∷ list_of rest
 
-listed : (sts : Stmts) → stmts (list_of sts) ≡ sts
+pub listed : (sts : Stmts) → stmts (list_of sts) ≡ sts
 listed no_stmts = refl
 listed (stmt_and st rest) = ap (λ r. stmt_and st r) (listed rest)
 
-record StmtsFit (vars tables : ℕ) (fs : List Frame) (sts : Stmts) : Type 0 where
-  formed : stmts_formed vars tables sts ≡ true
-  depth : stmts_depth sts + length fs ≤ 1024
-  free : (k : ℕ) → is_held k fs ≡ true → any_sets k sts ≡ false
+pub record StmtsFit (vars tables : ℕ) (fs : List Frame) (sts : Stmts) : Type 0 where
+  pub formed : stmts_formed vars tables sts ≡ true
+  pub depth : stmts_depth sts + length fs ≤ 1024
+  pub free : (k : ℕ) → is_held k fs ≡ true → any_sets k sts ≡ false
 
 left_false : (a b : Bool) → (a || b) ≡ false → a ≡ false
 left_false true b h = absurd (cc)
@@ -126,7 +126,7 @@ or_true true b h = refl
 or_true false b h = absurd (cc)
 
 mutual
-  stmt_goes : (st : Stmt) (s : State) → Open s → StmtFits s.vars (length s.tables) s.frames st → Goes s (stmt_lines st) (with_stmt s st)
+  pub stmt_goes : (st : Stmt) (s : State) → Open s → StmtFits s.vars (length s.tables) s.frames st → Goes s (stmt_lines st) (with_stmt s st)
   stmt_goes (set_var k e) s o f =
       let a = nat_lt k s.vars in let b = fits_here s e in let c = not (is_held k s.frames) in
       let name = left_true a b f.formed in let formed = right_true a b f.formed in
@@ -176,7 +176,7 @@ mutual
       (omega (arith, small, few), right_true a b ab, right_true (a && b) c abc),
       goes_on (stmts_lines body) (close_line ∷ []) s1 s2 (with_stmt s (for_each k x y body)) (stmts_goes body s1 o1 inside) (goes_to (close_line ∷ []) s2 s3 (with_stmt s (for_each k x y body)) (ap (λ z. with_stmt s (for_each k x y z)) (listed body)) close))
 
-  stmts_goes : (sts : Stmts) (s : State) → Open s → StmtsFit s.vars (length s.tables) s.frames sts → Goes s (stmts_lines sts) (record s { here = s.here ++ list_of sts })
+  pub stmts_goes : (sts : Stmts) (s : State) → Open s → StmtsFit s.vars (length s.tables) s.frames sts → Goes s (stmts_lines sts) (record s { here = s.here ++ list_of sts })
   stmts_goes no_stmts s o f = ap (λ h. record s { here = h }) (sym (append-nil s.here))
   stmts_goes (stmt_and st rest) s o f =
       let s1 = with_stmt s st in let o1 : Open s1 = record { phase = o.phase; vars = o.vars; tables = o.tables } in

@@ -9,4 +9,5 @@ pub mod Places
 pub mod Sound
 pub mod Inside
 pub mod Complete
+pub mod Programs
 

@@ -1,0 +1,348 @@
+-- That the lines of the steps and of `run` lead on.
+use Rattle.std.specs.Prelude.{◌≡◌, ℕ, zero, suc, ◌+◌, ◌*◌, ◌-◌, ◌^◌, ◌<◌, ◌≤◌, max, nat_lt, nat_le, ◌==◌, int_le, Bool, true, false, ◌&&◌, ◌||◌, not, ℤ, List, [], ◌∷◌, ◌++◌, length, if◌then◌else◌, Option, Some, None}
+use Rattle.std.specs.List.{list_all}
+use Rattle.std.proofs.Common.{subst, sym, refl, ap, arith, ◌∙◌, append_assoc, length-append, inl, inr, ◌⊎◌}
+use Rattle.std.proofs.lemmas.List.{append-nil}
+use Rattle.aol_shape.specs.Numbers.{fits_64}
+use Rattle.aol_csyn.specs.Tree.{Expr, num, var, tab, cell_v, cell_f, bin, Stmt, set_var, put_v, put_f, if_else, for_each, Stmts, no_stmts, stmt_and, stmts, Step, Program}
+use Rattle.aol_csyn.specs.Form.{expr_depth, expr_formed, stmt_depth, stmts_depth, sets, any_sets, stmt_formed, stmts_formed, step_formed, table_formed, IsWellFormed}
+use Rattle.aol_cread.specs.Lines.{Line, head_line, type_line, table_line, v_line, f_line, step_line, var_line, set_line, put_v_line, put_f_line, if_line, else_line, for_line, close_line, run_line, call_line}
+use Rattle.aol_cread.specs.States.{Frame, in_for, in_first, in_second, State, is_held, room_in, program_in}
+use Rattle.aol_cread.specs.Next.{where_true, with_stmt, with_frame, fits_here, advanced, opened, has_room, second_level, after_between, closed, turned, is_empty, after_inside, after_running, after_phase, next, nothing_read}
+use Rattle.aol_cread.specs.declared.building.Phase.{Phase}
+use Rattle.aol_cread.specs.declared.building.Phase.TheVariants.{Start, Headed, Tables, Celled, Between, Inside, Running, Ended}
+use Rattle.aol_cread.proofs.Exprs.{both_true, left_true, right_true, Sized}
+use Rattle.aol_cread.proofs.OneLine.{FitsLine}
+use Rattle.aol_cread.proofs.Shown.{stmt_lines, stmts_lines, tables_lines, vars_lines, step_lines, steps_lines, calls_lines, front_lines, program_lines, place, StmtFits}
+
+use Rattle.std.proofs.Math.Nat.{mul-le-mul_left}
+use Rattle.aol_cread.proofs.Places.{two, next_place, place_more, before_place, place_zero, level_ends}
+use Rattle.aol_cread.proofs.Complete.{Goes, goes_on, goes_to, next_in, where_holds, under, below, self, Open, list_of, listed, StmtsFit, stmts_goes}
+
+
+-- ---- places
+
+products : (a b w : ℕ) → a ≤ b → a * w ≤ b * w
+products a b w h = grind (arith, h)
+
+low_by : (d : Bool) (l m w k n : ℕ) → nat_lt l m ≡ d → l * w + k ≡ n → n < m * w → l < m
+low_by true l m w k n is h low = below l m is
+low_by false l m w k n is h low = let more = products m l w (grind (arith, is)) in absurd (omega (arith, more, h, low))
+
+level_low : (l m w k n : ℕ) → l * w + k ≡ n → n < m * w → l < m
+level_low l m w k n h below = low_by (nat_lt l m) l m w k n refl h below
+
+pub place_level : (w n l k m : ℕ) → 0 < w → place w 0 0 n ≡ two l k → n < m * w → l < m
+place_level w n l k m some at below =
+    let b = before_place w n 0 0 some in let many = b.many in
+    let there : l * w + k ≡ 0 * w + 0 + n = ap (λ (p : ℕ × ℕ). p.0 * w + p.1) (sym at) ∙ many in
+    level_low l m w k n (omega (arith, there)) below
+
+pub place_worker : (w n l k : ℕ) → 0 < w → place w 0 0 n ≡ two l k → k < w
+place_worker w n l k some at = let b = before_place w n 0 0 some in let low = b.within in let same : (place w 0 0 n).1 ≡ k = ap (λ (p : ℕ × ℕ). p.1) at in omega (arith, low, same)
+
+place_next : (w n l k : ℕ) → place w 0 0 n ≡ two l k → place w 0 0 (suc n) ≡ next_place w (two l k)
+place_next w n l k at = place_more w n 0 0 ∙ ap (next_place w) at
+
+-- the place after whole levels
+more_product : (l w : ℕ) → (l + 1) * w ≡ l * w + w
+more_product l w = grind arith
+
+exact_level : (d e : Bool) (l m w k : ℕ) → nat_lt l m ≡ d → nat_lt m l ≡ e → k < w → l * w + k ≡ m * w → two l k ≡ two m 0
+exact_level true e l m w k is is' low h =
+    let more = products (l + 1) m w (grind (arith, is)) in let one = more_product l w in absurd (omega (arith, more, one, low, h))
+exact_level false true l m w k is is' low h =
+    let more = products (m + 1) l w (grind (arith, is')) in let one = more_product m w in absurd (omega (arith, more, one, low, h))
+exact_level false false l m w k is is' low h =
+    let same : l ≡ m = grind (arith, is, is') in
+    let none : k ≡ 0 = omega (arith, h, ap (λ x. x * w) same) in
+    ap (λ x. two x k) same ∙ ap (two m) none
+
+exact_by : (l m w k : ℕ) → k < w → l * w + k ≡ m * w → two l k ≡ two m 0
+exact_by l m w k low h = exact_level (nat_lt l m) (nat_lt m l) l m w k refl refl low h
+
+pub place_end : (w m : ℕ) → 0 < w → place w 0 0 (m * w) ≡ two m 0
+place_end w m some =
+    let b = before_place w (m * w) 0 0 some in let many = b.many in let low = b.within in
+    let p = place w 0 0 (m * w) in
+    exact_by p.0 m w p.1 low (omega (arith, many))
+
+-- the first level
+early_test : (d : Bool) (n : ℕ) → d ≡ false → (if d then two (0 + 1) 0 else two 0 (n + 1)) ≡ two 0 (n + 1)
+early_test true n h = absurd (cc)
+early_test false n h = refl
+
+early_by : (d : Bool) (w n : ℕ) (p : ℕ × ℕ) → (p.1 + 1 == w) ≡ d → p ≡ two 0 n → n + 1 < w → next_place w p ≡ two 0 (n + 1)
+early_by d w n p is h low = ap (next_place w) h ∙ early_test (n + 1 == w) n (grind (arith, low))
+
+pub place_first : (n w : ℕ) → n < w → place w 0 0 n ≡ two 0 n
+place_first zero w h = refl
+place_first (suc n) w h = place_more w n 0 0 ∙ (early_by ((place w 0 0 n).1 + 1 == w) w n (place w 0 0 n) refl (place_first n w (omega (arith, h))) (omega (arith, h)) ∙ ap (two 0) (omega arith))
+
+none_more : (n : ℕ) → n ≡ n + 0
+none_more n = omega arith
+
+later : (a n : ℕ) → a + 1 + n ≡ a + suc n
+later a n = omega arith
+
+at_most : (a b : ℕ) → nat_le a b ≡ true → a ≤ b
+at_most a b h = grind (arith, h)
+
+other : (l a : ℕ) → l ≡ 1 → a ≡ 0 → (l == a) ≡ false
+other l a h i = grind (arith, h, i)
+
+differ : (l k a b : ℕ) → l ≡ 1 → a ≡ 0 → (l == a && k == b) ≡ false
+differ l k a b h i = ap (λ (t : Bool). t && k == b) (other l a h i)
+
+by_true : (d : Bool) (l k : ℕ) → d ≡ true → (if d then two (l + 1) 0 else two l (k + 1)) ≡ two (l + 1) 0
+by_true true l k h = refl
+by_true false l k h = absurd (cc)
+
+by_false : (d : Bool) (l k : ℕ) → d ≡ false → (if d then two (l + 1) 0 else two l (k + 1)) ≡ two l (k + 1)
+by_false true l k h = absurd (cc)
+by_false false l k h = refl
+
+later_suc : (n c : ℕ) → suc n + c ≡ n + suc c
+later_suc n c = omega arith
+
+-- ---- variables
+
+vars_go : (n : ℕ) (s : State) → Open s → s.frames ≡ [] → s.here ≡ [] → s.vars + n < 2 ^ 32 → Goes s (vars_lines s.vars n) (record s { vars = s.vars + n })
+vars_go zero s o f h few = ap (λ m. record s { vars = m }) (none_more s.vars)
+vars_go (suc n) s o f h few =
+    let u = record s { vars = s.vars + 1 } in
+    let ou : Open u = record { phase = o.phase; vars = omega (arith, few); tables = o.tables } in
+    let t = s.vars == s.vars && is_empty s.frames && is_empty s.here && nat_lt (s.vars + 1) (2 ^ 32) in
+    let test : t ≡ true = both_true (s.vars == s.vars && is_empty s.frames && is_empty s.here) (nat_lt (s.vars + 1) (2 ^ 32))
+      (both_true (s.vars == s.vars && is_empty s.frames) (is_empty s.here) (both_true (s.vars == s.vars) (is_empty s.frames) (self s.vars) (ap is_empty f)) (ap is_empty h)) (under (s.vars + 1) (2 ^ 32) (omega (arith, few))) in
+    (u, next_in Inside s (var_line s.vars) u o.phase (where_holds t u test), omega (arith, few),
+    goes_to (vars_lines (s.vars + 1) n) u (record u { vars = s.vars + 1 + n }) (record s { vars = s.vars + suc n }) (ap (λ m. record s { vars = m }) (later s.vars n)) (vars_go n u ou f h (omega (arith, few))))
+
+-- ---- a step
+
+abbrev pub stepped : State → Step → State
+stepped s st = advanced (record s { phase = Between; steps = s.steps ++ st ∷ []; vars = st.vars; frames = []; here = [] })
+
+small_step : (tables : ℕ) (st : Step) → step_formed tables st ≡ true → (st.vars < 2 ^ 32) × (stmts_formed st.vars tables st.body ≡ true) × (stmts_depth st.body ≤ 1024)
+small_step tables st h =
+    let a = nat_lt st.vars (2 ^ 32) in let b = stmts_formed st.vars tables st.body in let c = nat_le (stmts_depth st.body) 1024 in
+    let ab = left_true (a && b) c h in
+    (below st.vars (2 ^ 32) (left_true a b ab), right_true a b ab, at_most (stmts_depth st.body) 1024 (right_true (a && b) c h))
+
+body_goes : (s : State) (st : Step) → length s.tables < 2 ^ 32 → has_room s ≡ true → step_formed (length s.tables) st ≡ true → Goes (opened s) (vars_lines 0 st.vars ++ (stmts_lines st.body ++ close_line ∷ [])) (stepped s st)
+body_goes s st many room formed =
+    let f = small_step (length s.tables) st formed in let few = f.0 in let short = f.2 in
+    let s1 = opened s in let o1 : Open s1 = record { phase = refl; vars = omega arith; tables = many } in
+    let s2 = record s1 { vars = 0 + st.vars } in let o2 : Open s2 = record { phase = refl; vars = omega (arith, few); tables = many } in
+    let same : 0 + st.vars ≡ st.vars = omega arith in
+    let s3 = record s2 { here = [] ++ list_of st.body } in
+    let s4 = advanced (record s3 { phase = Between; steps = s.steps ++ record { vars = 0 + st.vars; body = stmts (list_of st.body) } ∷ []; here = [] }) in
+    let fits : StmtsFit s2.vars (length s2.tables) s2.frames st.body = record { formed = subst (λ n. stmts_formed n (length s.tables) st.body ≡ true) (sym same) f.1; depth = omega (arith, short); free = λ k h. absurd (cc) } in
+    let done : s4 ≡ stepped s st = ap (λ n. advanced (record s1 { phase = Between; vars = n; steps = s.steps ++ record { vars = n; body = stmts (list_of st.body) } ∷ []; here = [] })) same ∙ ap (λ b. advanced (record s1 { phase = Between; vars = st.vars; steps = s.steps ++ record { vars = st.vars; body = b } ∷ []; here = [] })) (listed st.body) in
+    goes_on (vars_lines 0 st.vars) (stmts_lines st.body ++ close_line ∷ []) s1 s2 (stepped s st) (vars_go st.vars s1 o1 refl refl (omega (arith, few)))
+    (goes_on (stmts_lines st.body) (close_line ∷ []) s2 s3 (stepped s st) (stmts_goes st.body s2 o2 fits)
+    (goes_to (close_line ∷ []) s3 s4 (stepped s st) done (s4, next_in Inside s3 close_line s4 refl (where_holds (has_room s) s4 room), tt, refl)))
+
+-- where a state between steps stands, after so many steps of a program with so many workers
+abbrev Stands : State → ℕ → ℕ → Type 0
+Stands s w n = ((n ≤ w) × (s.workers ≡ 0) × (s.level ≡ 0) × (s.worker ≡ n)) ⊎ ((w < n) × (s.workers ≡ w) × (place w 0 0 n ≡ two s.level s.worker))
+
+record IsBetween (s : State) (ts : List (List ℤ)) (size : ℕ) (done : List Step) (w n : ℕ) : Type 0 where
+  phase : s.phase ≡ Between
+  tables : s.tables ≡ ts
+  cells : s.cells ≡ size
+  steps : s.steps ≡ done
+  stands : Stands s w n
+
+-- the state in which a step begins
+record Begins (s : State) (l k w n : ℕ) : Type 0 where
+  from : State
+  same : (from.tables ≡ s.tables) × (from.cells ≡ s.cells) × (from.steps ≡ s.steps)
+  goes : after_between s (step_line l k) ≡ Some (opened from)
+  room : has_room from ≡ true
+  after : (st : Step) → Stands (stepped from st) w (suc n)
+
+test_same : (a b : ℕ) → a ≡ b → (a == b) ≡ true
+test_same a b h = grind (arith, h)
+
+by_first : (d : Bool) (x y : Option State) → d ≡ true → (if d then x else y) ≡ x
+by_first true x y h = refl
+by_first false x y h = absurd (cc)
+
+by_second : (d : Bool) (x y : Option State) → d ≡ false → (if d then x else y) ≡ y
+by_second true x y h = absurd (cc)
+by_second false x y h = refl
+
+same_place : (s : State) (l k : ℕ) → l ≡ s.level → k ≡ s.worker → has_room s ≡ true → after_between s (step_line l k) ≡ Some (opened s)
+same_place s l k h i room =
+    by_first (l == s.level && k == s.worker) (where_true (has_room s) (opened s)) (where_true (l == 1 && k == 0 && s.workers == 0 && not (s.worker == 0)) (opened (second_level s))) (both_true (l == s.level) (k == s.worker) (test_same l s.level h) (test_same k s.worker i))
+    ∙ where_holds (has_room s) (opened s) room
+
+room_is : (s : State) → s.level + 1 < 2 ^ 32 → s.worker + 1 < 2 ^ 32 → has_room s ≡ true
+room_is s h i = both_true (nat_lt (s.level + 1) (2 ^ 32)) (nat_lt (s.worker + 1) (2 ^ 32)) (under (s.level + 1) (2 ^ 32) h) (under (s.worker + 1) (2 ^ 32) i)
+
+-- the place of the state after a step
+advanced_place : (d : Bool) (s : State) → (if d then two (s.level + 1) 0 else two s.level (s.worker + 1)) ≡ two (if d then record s { level = s.level + 1; worker = 0 } else record s { worker = s.worker + 1 }).level (if d then record s { level = s.level + 1; worker = 0 } else record s { worker = s.worker + 1 }).worker
+advanced_place true s = refl
+advanced_place false s = refl
+
+advanced_workers : (d : Bool) (s : State) → (if d then record s { level = s.level + 1; worker = 0 } else record s { worker = s.worker + 1 }).workers ≡ s.workers
+advanced_workers true s = refl
+advanced_workers false s = refl
+
+later_stands : (s : State) (w n : ℕ) (st : Step) → s.workers ≡ w → place w 0 0 n ≡ two s.level s.worker → w < suc n → Stands (stepped s st) w (suc n)
+later_stands s w n st is at past =
+    let u = record s { phase = Between; steps = s.steps ++ st ∷ []; vars = st.vars; frames = []; here = [] } in
+    inr (past, advanced_workers (s.worker + 1 == s.workers) u ∙ is,
+    place_next w n s.level s.worker at ∙ (ap (λ v. next_place v (two s.level s.worker)) (sym is) ∙ advanced_place (s.worker + 1 == s.workers) u))
+
+early_state : (d : Bool) (u : State) → d ≡ false → (if d then record u { level = u.level + 1; worker = 0 } else record u { worker = u.worker + 1 }) ≡ record u { worker = u.worker + 1 }
+early_state true u h = absurd (cc)
+early_state false u h = refl
+
+never_zero : (k w : ℕ) → w ≡ 0 → (k + 1 == w) ≡ false
+never_zero k w h = grind (arith, h)
+
+first_stands : (s : State) (w n : ℕ) (st : Step) → s.workers ≡ 0 → s.level ≡ 0 → s.worker ≡ n → n < w → Stands (stepped s st) w (suc n)
+first_stands s w n st none low is past =
+    let u = record s { phase = Between; steps = s.steps ++ st ∷ []; vars = st.vars; frames = []; here = [] } in
+    let e = early_state (s.worker + 1 == s.workers) u (never_zero s.worker s.workers none) in
+    inl (omega (arith, past), ap (λ (x : State). x.workers) e ∙ none, ap (λ (x : State). x.level) e ∙ low, ap (λ (x : State). x.worker) e ∙ omega (arith, is))
+
+module _ (w m : ℕ) (some : 0 < w) (few : w < 2 ^ 32) (levels : m < 2 ^ 32) where
+  begins_early : (s : State) (l k n : ℕ) → n < w → s.workers ≡ 0 → s.level ≡ 0 → s.worker ≡ n → place w 0 0 n ≡ two l k → Begins s l k w n
+  begins_early s l k n h none low is at =
+      let here : two l k ≡ two 0 n = sym at ∙ place_first n w h in
+      let room = room_is s (omega (arith, low)) (omega (arith, is, h, few)) in
+      record {
+        from = s; same = (refl, refl, refl);
+        goes = same_place s l k (ap (λ (p : ℕ × ℕ). p.0) here ∙ sym low) (ap (λ (p : ℕ × ℕ). p.1) here ∙ sym is) room;
+        room = room;
+        after = λ st. first_stands s w n st none low is h;
+      }
+
+  begins_second : (s : State) (l k n : ℕ) → n ≡ w → s.workers ≡ 0 → s.level ≡ 0 → s.worker ≡ n → place w 0 0 n ≡ two l k → Begins s l k w n
+  begins_second s l k n h none low is at =
+      let here : two l k ≡ two 1 0 = sym at ∙ (level_ends w n 0 0 (omega (arith, h, some)) (omega (arith, h)) ∙ ap (λ x. two x 0) (omega arith)) in
+      let one : l ≡ 1 = ap (λ (p : ℕ × ℕ). p.0) here in let zero_worker : k ≡ 0 = ap (λ (p : ℕ × ℕ). p.1) here in
+      let t = l == 1 && k == 0 && s.workers == 0 && not (s.worker == 0) in
+      let test : t ≡ true = both_true (l == 1 && k == 0 && s.workers == 0) (not (s.worker == 0)) (both_true (l == 1 && k == 0) (s.workers == 0) (both_true (l == 1) (k == 0) (test_same l 1 one) (test_same k 0 zero_worker)) (test_same s.workers 0 none)) (grind (arith, is, h, some)) in
+      record {
+        from = second_level s; same = (refl, refl, refl);
+        goes = by_second (l == s.level && k == s.worker) (where_true (has_room s) (opened s)) (where_true t (opened (second_level s))) (differ l k s.level s.worker one low) ∙ where_holds t (opened (second_level s)) test;
+        room = refl;
+        after = λ st. later_stands (second_level s) w n st (omega (arith, is, h)) (at ∙ here) (omega (arith, h));
+      }
+
+  begins_later : (s : State) (l k n : ℕ) → w < n → n < m * w → s.workers ≡ w → place w 0 0 n ≡ two s.level s.worker → place w 0 0 n ≡ two l k → Begins s l k w n
+  begins_later s l k n h total is at there =
+      let here : two l k ≡ two s.level s.worker = sym there ∙ at in
+      let low = place_level w n s.level s.worker m some at total in let small = place_worker w n s.level s.worker some at in
+      let room = room_is s (omega (arith, low, levels)) (omega (arith, small, few)) in
+      record {
+        from = s; same = (refl, refl, refl);
+        goes = same_place s l k (ap (λ (p : ℕ × ℕ). p.0) here) (ap (λ (p : ℕ × ℕ). p.1) here) room;
+        room = room;
+        after = λ st. later_stands s w n st is at (omega (arith, h));
+      }
+
+  by_end : (d : Bool) (s : State) (l k n : ℕ) → nat_lt n w ≡ d → n ≤ w → s.workers ≡ 0 → s.level ≡ 0 → s.worker ≡ n → place w 0 0 n ≡ two l k → Begins s l k w n
+  by_end true s l k n d h none low is at = begins_early s l k n (below n w d) none low is at
+  by_end false s l k n d h none low is at = begins_second s l k n (grind (arith, d, h)) none low is at
+
+  begins : (s : State) (l k n : ℕ) → n < m * w → Stands s w n → place w 0 0 n ≡ two l k → Begins s l k w n
+  begins s l k n total (inr c) at = begins_later s l k n c.0 total c.1 c.2 at
+  begins s l k n total (inl c) at = by_end (nat_lt n w) s l k n refl c.0 c.1 c.2 c.3 at
+
+  -- ---- all steps
+
+  record Arrived (s : State) (ls : List Line) (ts : List (List ℤ)) (size : ℕ) (done : List Step) (n : ℕ) : Type 0 where
+    last : State
+    goes : Goes s ls last
+    between : IsBetween last ts size done w n
+
+  keeps : (d : Bool) (u : State) → ((if d then record u { level = u.level + 1; worker = 0 } else record u { worker = u.worker + 1 }).phase ≡ u.phase)
+      × ((if d then record u { level = u.level + 1; worker = 0 } else record u { worker = u.worker + 1 }).tables ≡ u.tables)
+      × ((if d then record u { level = u.level + 1; worker = 0 } else record u { worker = u.worker + 1 }).cells ≡ u.cells)
+      × ((if d then record u { level = u.level + 1; worker = 0 } else record u { worker = u.worker + 1 }).steps ≡ u.steps)
+  keeps true u = (refl, refl, refl, refl)
+  keeps false u = (refl, refl, refl, refl)
+
+  module _ (ts : List (List ℤ)) (size : ℕ) (many : length ts < 2 ^ 32) where
+    one_step : (s : State) (st : Step) (l k n : ℕ) (done : List Step) → place w 0 0 n ≡ two l k → n < m * w → IsBetween s ts size done w n → step_formed (length ts) st ≡ true → Arrived s (step_lines l k st) ts size (done ++ st ∷ []) (suc n)
+    one_step s st l k n done at total b formed =
+        let g = begins s l k n total b.stands at in
+        let s' = g.from in let same = g.same in
+        let tables : s'.tables ≡ ts = same.0 ∙ b.tables in
+        let long : length s'.tables ≡ length ts = ap (λ (xs : List (List ℤ)). length xs) tables in
+        let low = place_level w n l k m some at total in let small = place_worker w n l k some at in
+        let u = record s' { phase = Between; steps = s'.steps ++ st ∷ []; vars = st.vars; frames = []; here = [] } in
+        let kept = keeps (s'.worker + 1 == s'.workers) u in
+        record {
+          last = stepped s' st;
+          goes = (opened s', next_in Between s (step_line l k) (opened s') b.phase g.goes, (omega (arith, low, levels), omega (arith, small, few)), body_goes s' st (omega (arith, long, many)) g.room (subst (λ x. step_formed x st ≡ true) (sym long) formed));
+          between = record { phase = kept.0; tables = kept.1 ∙ tables; cells = kept.2 ∙ (same.1 ∙ b.cells); steps = kept.3 ∙ ap (λ xs. xs ++ st ∷ []) (same.2 ∙ b.steps); stands = g.after st };
+        }
+
+    steps_by : (d : Bool) (st : Step) (xs : List Step) (s : State) (l k n : ℕ) (done : List Step) → (k + 1 == w) ≡ d → place w 0 0 n ≡ two l k → Arrived s (step_lines l k st) ts size (done ++ st ∷ []) (suc n)
+        → ((t : State) (l k : ℕ) → place w 0 0 (suc n) ≡ two l k → IsBetween t ts size (done ++ st ∷ []) w (suc n) → Arrived t (steps_lines w l k xs) ts size ((done ++ st ∷ []) ++ xs) (suc n + length xs))
+        → Arrived s (step_lines l k st ++ (if d then steps_lines w (l + 1) 0 xs else steps_lines w l (k + 1) xs)) ts size ((done ++ st ∷ []) ++ xs) (suc n + length xs)
+    steps_by true st xs s l k n done is at a again =
+        let r = again a.last (l + 1) 0 (place_next w n l k at ∙ by_true (k + 1 == w) l k is) a.between in
+        record { last = r.last; goes = goes_on (step_lines l k st) (steps_lines w (l + 1) 0 xs) s a.last r.last a.goes r.goes; between = r.between }
+    steps_by false st xs s l k n done is at a again =
+        let r = again a.last l (k + 1) (place_next w n l k at ∙ by_false (k + 1 == w) l k is) a.between in
+        record { last = r.last; goes = goes_on (step_lines l k st) (steps_lines w l (k + 1) xs) s a.last r.last a.goes r.goes; between = r.between }
+
+    steps_go : (xs : List Step) (s : State) (l k n : ℕ) (done : List Step) → place w 0 0 n ≡ two l k → n + length xs ≤ m * w → IsBetween s ts size done w n → list_all (step_formed (length ts)) xs ≡ true → Arrived s (steps_lines w l k xs) ts size (done ++ xs) (n + length xs)
+    steps_go [] s l k n done at total b formed =
+        record { last = s; goes = refl; between = record { phase = b.phase; tables = b.tables; cells = b.cells; steps = b.steps ∙ sym (append-nil done); stands = subst (λ x. Stands s w x) (none_more n) b.stands } }
+    steps_go (st ∷ xs) s l k n done at total b formed =
+        let p = step_formed (length ts) in
+        let a = one_step s st l k n done at (omega (arith, total)) b (left_true (p st) (list_all p xs) formed) in
+        let r = steps_by (k + 1 == w) st xs s l k n done refl at a (λ t l k there c. steps_go xs t l k (suc n) (done ++ st ∷ []) there (omega (arith, total)) c (right_true (p st) (list_all p xs) formed)) in
+        let b' = r.between in
+        record { last = r.last; goes = r.goes; between = record { phase = b'.phase; tables = b'.tables; cells = b'.cells; steps = b'.steps ∙ append_assoc done (st ∷ []) xs; stands = subst (λ x. Stands r.last w x) (later_suc n (length xs)) b'.stands } }
+
+  -- ---- `run`
+
+  record Runs (s : State) (l k n : ℕ) : Type 0 where
+    phase : s.phase ≡ Running
+    workers : s.workers ≡ w
+    levels : s.levels ≡ m
+    level : s.level ≡ l
+    worker : s.worker ≡ k
+    at : place w 0 0 n ≡ two l k
+
+  called : (d : Bool) (c : ℕ) (s : State) (l k n : ℕ) → (k + 1 == w) ≡ d → Runs s l k n → (l < 2 ^ 32) × (k < 2 ^ 32)
+      → next s (call_line l k) ≡ Some (if d then record s { level = s.level + 1; worker = 0 } else record s { worker = s.worker + 1 })
+      → ((t : State) (l k : ℕ) → Runs t l k (suc n) → Goes t (calls_lines w l k c) (record t { level = m; worker = 0 }))
+      → Goes s (call_line l k ∷ (if d then calls_lines w (l + 1) 0 c else calls_lines w l (k + 1) c)) (record s { level = m; worker = 0 })
+  called true c s l k n is r fit step again =
+      let u = record s { level = s.level + 1; worker = 0 } in let lv = r.level in
+      (u, step, fit, again u (l + 1) 0 (record { phase = r.phase; workers = r.workers; levels = r.levels; level = ap (λ x. x + 1) lv; worker = refl; at = place_next w n l k r.at ∙ by_true (k + 1 == w) l k is }))
+  called false c s l k n is r fit step again =
+      let u = record s { worker = s.worker + 1 } in let wk = r.worker in
+      (u, step, fit, again u l (k + 1) (record { phase = r.phase; workers = r.workers; levels = r.levels; level = r.level; worker = ap (λ x. x + 1) wk; at = place_next w n l k r.at ∙ by_false (k + 1 == w) l k is }))
+
+  call_by : (d : Bool) (c : ℕ) (s : State) (l k n : ℕ) → (k + 1 == w) ≡ d → Runs s l k n → n + suc c ≡ m * w
+      → ((t : State) (l k : ℕ) → Runs t l k (suc n) → Goes t (calls_lines w l k c) (record t { level = m; worker = 0 }))
+      → Goes s (call_line l k ∷ (if d then calls_lines w (l + 1) 0 c else calls_lines w l (k + 1) c)) (record s { level = m; worker = 0 })
+  call_by d c s l k n is r total again =
+      let below_end = place_level w n l k m some r.at (omega (arith, total)) in let small = place_worker w n l k some r.at in
+      let lev = r.levels in let lv = r.level in let wk = r.worker in let ws = r.workers in
+      let t = l == s.level && k == s.worker && nat_lt s.level s.levels && has_room s in
+      let test : t ≡ true = both_true (l == s.level && k == s.worker && nat_lt s.level s.levels) (has_room s)
+        (both_true (l == s.level && k == s.worker) (nat_lt s.level s.levels) (both_true (l == s.level) (k == s.worker) (test_same l s.level (sym lv)) (test_same k s.worker (sym wk))) (under s.level s.levels (omega (arith, lev, lv, below_end))))
+        (room_is s (omega (arith, lv, below_end, levels)) (omega (arith, wk, small, few))) in
+      let same : (s.worker + 1 == s.workers) ≡ d = ap (λ x. x + 1 == s.workers) wk ∙ (ap (λ x. k + 1 == x) ws ∙ is) in
+      let step : next s (call_line l k) ≡ Some (if d then record s { level = s.level + 1; worker = 0 } else record s { worker = s.worker + 1 }) =
+      next_in Running s (call_line l k) (advanced s) r.phase (where_holds t (advanced s) test) ∙ ap (λ (x : Bool). Some (if x then record s { level = s.level + 1; worker = 0 } else record s { worker = s.worker + 1 })) same in
+      called d c s l k n is r (omega (arith, below_end, levels), omega (arith, small, few)) step again
+
+  calls_go : (c : ℕ) (s : State) (l k n : ℕ) → Runs s l k n → n + c ≡ m * w → Goes s (calls_lines w l k c) (record s { level = m; worker = 0 })
+  calls_go zero s l k n r total =
+      let lv = r.level in let wk = r.worker in
+      let here : two l k ≡ two m 0 = sym r.at ∙ (ap (place w 0 0) (none_more n ∙ total) ∙ place_end w m some) in
+      ap (λ (p : ℕ × ℕ). record s { level = p.0; worker = p.1 }) (ap (λ x. two x s.worker) lv ∙ (ap (two l) wk ∙ here))
+  calls_go (suc c) s l k n r total = call_by (k + 1 == w) c s l k n refl r total (λ t l k q. calls_go c t l k (suc n) q (omega (arith, total)))

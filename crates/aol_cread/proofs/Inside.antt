@@ -27,7 +27,7 @@ room_level s h = below (s.level + 1) (2 ^ 32) (left_true (nat_lt (s.level + 1) (
 room_worker : (s : State) → has_room s ≡ true → s.worker + 1 < 2 ^ 32
 room_worker s h = below (s.worker + 1) (2 ^ 32) (right_true (nat_lt (s.level + 1) (2 ^ 32)) (nat_lt (s.worker + 1) (2 ^ 32)) h)
 
-moved : (s u : State) → s.level ≡ u.level → s.worker ≡ u.worker → s.workers ≡ u.workers → First s ⊎ Known s → First u ⊎ Known u
+pub moved : (s u : State) → s.level ≡ u.level → s.worker ≡ u.worker → s.workers ≡ u.workers → First s ⊎ Known s → First u ⊎ Known u
 moved s u h i j (inl f) = let none = f.workers in let low = f.level in inl (record { workers = sym j ∙ none; level = sym h ∙ low })
 moved s u h i j (inr k) = let few = k.few in let within = k.within in let low = k.level in inr (record { few = omega (arith, few, j); within = omega (arith, within, i, j); level = omega (arith, low, h) })
 
@@ -36,7 +36,7 @@ begun s ls l w is_l is_w made placed room lines =
     let tabled = made.tabled in let cells = made.cells in
     record {
       made = record { tabled = record { formed = tabled.formed; many = tabled.many }; cells = record { some = cells.some; few = cells.few }; steps = made.steps };
-      placed = record { at = placed.at; known = moved s _ refl refl refl placed.known; level = placed.level; worker = placed.worker };
+      placed = record { at = placed.at; known = moved s _ refl refl refl placed.known; level = placed.level; worker = placed.worker; higher = placed.higher };
       room = room;
       vars = omega arith;
       nested = (inner_none 0 (length s.tables) [] (omega arith), tt);
@@ -44,7 +44,7 @@ begun s ls l w is_l is_w made placed room lines =
     }
 
 -- the first level is whole where the second begins
-level_closed : (s : State) → Placed s → s.workers ≡ 0 → 0 < s.worker → (length s.steps ≡ s.worker) × (steps_lines s.workers 0 0 s.steps ≡ steps_lines s.worker 0 0 s.steps) × (place s.worker 0 0 (length s.steps) ≡ two 1 0)
+pub level_closed : (s : State) → Placed s → s.workers ≡ 0 → 0 < s.worker → (length s.steps ≡ s.worker) × (steps_lines s.workers 0 0 s.steps ≡ steps_lines s.worker 0 0 s.steps) × (place s.worker 0 0 (length s.steps) ≡ two 1 0)
 level_closed s placed none some =
     let at : two 0 (0 + length s.steps) ≡ two s.level s.worker = sym (place_zero (length s.steps) 0 0) ∙ (ap (λ w. place w 0 0 (length s.steps)) (sym none) ∙ placed.at) in
     let long : 0 + length s.steps ≡ s.worker = ap (λ (p : ℕ × ℕ). p.1) at in
@@ -61,7 +61,7 @@ second_begun s ls l w test r =
     let low = placed.worker in
     begun (second_level s) ls l w (same_numbers l 1 (left_true a b ab)) (same_numbers w 0 (right_true a b ab))
     (record { tabled = record { formed = tabled.formed; many = tabled.many }; cells = record { some = cells.some; few = cells.few }; steps = made.steps })
-    (record { at = whole.2; known = inr (record { few = low; within = some; level = omega arith }); level = omega arith; worker = omega arith })
+    (record { at = whole.2; known = inr (record { few = low; within = some; level = omega arith }); level = omega arith; worker = omega arith; higher = λ h. absurd (omega (arith, h)) })
     refl
     (r.lines ∙ ap (λ z. front_lines s.tables s.cells ++ z) whole.1)
 
@@ -124,7 +124,7 @@ in_between s t l ls h r = absurd (cc)
 
 -- ---- inside a step
 
-inside_lines : (p vs ns m : List Line) (st : Line) → (p ++ (st ∷ (vs ++ ns))) ++ m ≡ p ++ (st ∷ (vs ++ (ns ++ m)))
+pub inside_lines : (p vs ns m : List Line) (st : Line) → (p ++ (st ∷ (vs ++ ns))) ++ m ≡ p ++ (st ∷ (vs ++ (ns ++ m)))
 inside_lines p vs ns m st = append_assoc p (st ∷ (vs ++ ns)) m ∙ ap (λ z. p ++ (st ∷ z)) (append_assoc vs ns m)
 
 -- other blocks and statements
@@ -135,7 +135,7 @@ changed s ls l fs here is r n text =
     let made = r.made in let placed = r.placed in let tabled = made.tabled in let cells = made.cells in
     let now : InStep u (ls ++ l ∷ []) = record {
       made = record { tabled = record { formed = tabled.formed; many = tabled.many }; cells = record { some = cells.some; few = cells.few }; steps = made.steps };
-      placed = record { at = placed.at; known = moved s _ refl refl refl placed.known; level = placed.level; worker = placed.worker };
+      placed = record { at = placed.at; known = moved s _ refl refl refl placed.known; level = placed.level; worker = placed.worker; higher = placed.higher };
       room = r.room;
       vars = r.vars;
       nested = n;
@@ -184,7 +184,7 @@ apart : (j k : ℕ) (fs : List Frame) → is_held j fs ≡ true → is_held k fs
 apart j k fs h f = apart_by (k == j) j k fs refl h f
 
 -- a block ends
-for_fits : (vars tables : ℕ) (fs : List Frame) (k : ℕ) (a b : ℤ) (before here : List Stmt) → Nested vars tables (in_for k a b before ∷ fs) here → StmtFits vars tables fs (for_each k a b (stmts here))
+pub for_fits : (vars tables : ℕ) (fs : List Frame) (k : ℕ) (a b : ℤ) (before here : List Stmt) → Nested vars tables (in_for k a b before ∷ fs) here → StmtFits vars tables fs (for_each k a b (stmts here))
 for_fits vars tables fs k a b before here n =
     let i = n.0 in let f = n.1.0 in let low = i.depth in
     let self : is_held k (in_for k a b before ∷ fs) ≡ true = or_left (k == k) (is_held k fs) (byte_self k) in
@@ -197,7 +197,7 @@ for_fits vars tables fs k a b before here n =
       free = λ j h. neither (k == j) (any_sets j (stmts here)) (apart j k fs h f.free) (i.free j (or_right (k == j) (is_held j fs) h));
     }
 
-if_fits : (vars tables : ℕ) (fs : List Frame) (e : Expr) (first before here : List Stmt) → Nested vars tables (in_second e first before ∷ fs) here → StmtFits vars tables fs (if_else e (stmts first) (stmts here))
+pub if_fits : (vars tables : ℕ) (fs : List Frame) (e : Expr) (first before here : List Stmt) → Nested vars tables (in_second e first before ∷ fs) here → StmtFits vars tables fs (if_else e (stmts first) (stmts here))
 if_fits vars tables fs e first before here n =
     let i = n.0 in let f = n.1.0.0 in let j = n.1.0.1 in
     let low = i.depth in let near = j.depth in let small = f.depth in
@@ -207,7 +207,7 @@ if_fits vars tables fs e first before here n =
       free = λ k h. neither (any_sets k (stmts first)) (any_sets k (stmts here)) (j.free k h) (i.free k h);
     }
 
-closed_lines : (p m : List Line) (l : Line) (body : List Line) → (p ++ (l ∷ body)) ++ m ≡ p ++ (l ∷ (body ++ m))
+pub closed_lines : (p m : List Line) (l : Line) (body : List Line) → (p ++ (l ∷ body)) ++ m ≡ p ++ (l ∷ (body ++ m))
 closed_lines p m l body = append_assoc p (l ∷ body) m
 
 at_most : (a b : ℕ) → a ≤ b → nat_le a b ≡ true
@@ -275,7 +275,7 @@ module _ (s : State) (ls : List Line) (r : InStep s ls) (bare : s.frames ≡ [])
   place_after : place s.workers 0 0 (length (s.steps ++ last ∷ [])) ≡ next_place s.workers (two s.level s.worker)
   place_after = let placed = r.placed in ap (place s.workers 0 0) (long_more s.steps last) ∙ place_next s.workers (length s.steps) s.level s.worker placed.at
 
-  ended_by : (d : Bool) → (s.worker + 1 == s.workers) ≡ d → Reached (if d then record after { level = s.level + 1; worker = 0 } else record after { worker = s.worker + 1 }) (ls ++ close_line ∷ [])
+  pub ended_by : (d : Bool) → (s.worker + 1 == s.workers) ≡ d → Reached (if d then record after { level = s.level + 1; worker = 0 } else record after { worker = s.worker + 1 }) (ls ++ close_line ∷ [])
   ended_by true is =
       let placed = r.placed in let made = made_after in let tabled = made.tabled in let cells = made.cells in
       let same = same_numbers (s.worker + 1) s.workers is in
@@ -287,6 +287,7 @@ module _ (s : State) (ls : List Line) (r : InStep s ls) (bare : s.frames ≡ [])
           known = inr (record { few = few; within = omega (arith, within); level = omega arith });
           level = room_level s r.room;
           worker = omega arith;
+          higher = λ h. absurd (omega (arith, h));
         };
         lines = step_text;
       }
@@ -299,6 +300,7 @@ module _ (s : State) (ls : List Line) (r : InStep s ls) (bare : s.frames ≡ [])
           known = still s (record after { worker = s.worker + 1 }) refl refl refl (λ e. grind (arith, e, is)) placed.known;
           level = placed.level;
           worker = room_worker s r.room;
+          higher = λ h. room_level s r.room;
         };
         lines = step_text;
       }
@@ -349,7 +351,7 @@ var_added s ls k is no_frame no_stmt few ph r =
     let made = r.made in let placed = r.placed in let tabled = made.tabled in let cells = made.cells in
     let now : InStep u (ls ++ var_line k ∷ []) = record {
       made = record { tabled = record { formed = tabled.formed; many = tabled.many }; cells = record { some = cells.some; few = cells.few }; steps = made.steps };
-      placed = record { at = placed.at; known = moved s u refl refl refl placed.known; level = placed.level; worker = placed.worker };
+      placed = record { at = placed.at; known = moved s u refl refl refl placed.known; level = placed.level; worker = placed.worker; higher = placed.higher };
       room = r.room;
       vars = few;
       nested = subst (λ fs. Nested (s.vars + 1) (length s.tables) fs s.here) (sym no_frame) (subst (λ here. Nested (s.vars + 1) (length s.tables) [] here) (sym no_stmt) (inner_none (s.vars + 1) (length s.tables) [] (omega arith), tt));

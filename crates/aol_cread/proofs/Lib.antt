@@ -10,4 +10,6 @@ pub mod Sound
 pub mod Inside
 pub mod Complete
 pub mod Programs
+pub mod Live
+pub mod Texts
 

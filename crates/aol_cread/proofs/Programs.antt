@@ -309,7 +309,7 @@ module _ (w m : ℕ) (some : 0 < w) (few : w < 2 ^ 32) (levels : m < 2 ^ 32) whe
   record Runs (s : State) (l k n : ℕ) : Type 0 where
     phase : s.phase ≡ Running
     workers : s.workers ≡ w
-    levels : s.levels ≡ m
+    whole : s.levels ≡ m
     level : s.level ≡ l
     worker : s.worker ≡ k
     at : place w 0 0 n ≡ two l k
@@ -320,17 +320,17 @@ module _ (w m : ℕ) (some : 0 < w) (few : w < 2 ^ 32) (levels : m < 2 ^ 32) whe
       → Goes s (call_line l k ∷ (if d then calls_lines w (l + 1) 0 c else calls_lines w l (k + 1) c)) (record s { level = m; worker = 0 })
   called true c s l k n is r fit step again =
       let u = record s { level = s.level + 1; worker = 0 } in let lv = r.level in
-      (u, step, fit, again u (l + 1) 0 (record { phase = r.phase; workers = r.workers; levels = r.levels; level = ap (λ x. x + 1) lv; worker = refl; at = place_next w n l k r.at ∙ by_true (k + 1 == w) l k is }))
+      (u, step, fit, again u (l + 1) 0 (record { phase = r.phase; workers = r.workers; whole = r.whole; level = ap (λ x. x + 1) lv; worker = refl; at = place_next w n l k r.at ∙ by_true (k + 1 == w) l k is }))
   called false c s l k n is r fit step again =
       let u = record s { worker = s.worker + 1 } in let wk = r.worker in
-      (u, step, fit, again u l (k + 1) (record { phase = r.phase; workers = r.workers; levels = r.levels; level = r.level; worker = ap (λ x. x + 1) wk; at = place_next w n l k r.at ∙ by_false (k + 1 == w) l k is }))
+      (u, step, fit, again u l (k + 1) (record { phase = r.phase; workers = r.workers; whole = r.whole; level = r.level; worker = ap (λ x. x + 1) wk; at = place_next w n l k r.at ∙ by_false (k + 1 == w) l k is }))
 
   call_by : (d : Bool) (c : ℕ) (s : State) (l k n : ℕ) → (k + 1 == w) ≡ d → Runs s l k n → n + suc c ≡ m * w
       → ((t : State) (l k : ℕ) → Runs t l k (suc n) → Goes t (calls_lines w l k c) (record t { level = m; worker = 0 }))
       → Goes s (call_line l k ∷ (if d then calls_lines w (l + 1) 0 c else calls_lines w l (k + 1) c)) (record s { level = m; worker = 0 })
   call_by d c s l k n is r total again =
       let below_end = place_level w n l k m some r.at (omega (arith, total)) in let small = place_worker w n l k some r.at in
-      let lev = r.levels in let lv = r.level in let wk = r.worker in let ws = r.workers in
+      let lev = r.whole in let lv = r.level in let wk = r.worker in let ws = r.workers in
       let t = l == s.level && k == s.worker && nat_lt s.level s.levels && has_room s in
       let test : t ≡ true = both_true (l == s.level && k == s.worker && nat_lt s.level s.levels) (has_room s)
         (both_true (l == s.level && k == s.worker) (nat_lt s.level s.levels) (both_true (l == s.level) (k == s.worker) (test_same l s.level (sym lv)) (test_same k s.worker (sym wk))) (under s.level s.levels (omega (arith, lev, lv, below_end))))
@@ -346,3 +346,140 @@ module _ (w m : ℕ) (some : 0 < w) (few : w < 2 ^ 32) (levels : m < 2 ^ 32) whe
       let here : two l k ≡ two m 0 = sym r.at ∙ (ap (place w 0 0) (none_more n ∙ total) ∙ place_end w m some) in
       ap (λ (p : ℕ × ℕ). record s { level = p.0; worker = p.1 }) (ap (λ x. two x s.worker) lv ∙ (ap (two l) wk ∙ here))
   calls_go (suc c) s l k n r total = call_by (k + 1 == w) c s l k n refl r total (λ t l k q. calls_go c t l k (suc n) q (omega (arith, total)))
+
+-- ---- the whole program
+
+long_one : (xs : List (List ℤ)) (x : List ℤ) → length (xs ++ x ∷ []) ≡ length xs + 1
+long_one xs x = let long = length-append xs (x ∷ []) in omega (arith, long)
+
+not_none : (a : ℕ) → not (a == 0) ≡ true → 0 < a
+not_none a h = grind (arith, h)
+
+tables_go : (ts : List (List ℤ)) (s : State) → s.phase ≡ Tables → list_all table_formed ts ≡ true → length s.tables + length ts < 2 ^ 32 → Goes s (tables_lines (length s.tables) ts) (record s { tables = s.tables ++ ts })
+tables_go [] s ph formed few = ap (λ xs. record s { tables = xs }) (sym (append-nil s.tables))
+tables_go (x ∷ ts) s ph formed few =
+    let u = record s { tables = s.tables ++ x ∷ [] } in
+    let t = length s.tables == length s.tables && nat_lt (length s.tables + 1) (2 ^ 32) in
+    let test : t ≡ true = both_true (length s.tables == length s.tables) (nat_lt (length s.tables + 1) (2 ^ 32)) (self (length s.tables)) (under (length s.tables + 1) (2 ^ 32) (omega (arith, few))) in
+    let long : length (s.tables ++ x ∷ []) ≡ length s.tables + 1 = long_one s.tables x in
+    let f = left_true (table_formed x) (list_all table_formed ts) formed in
+    let ab = left_true (not (length x == 0) && nat_lt (length x) (2 ^ 32)) (list_all fits_64 x) f in
+    let short = below (length x) (2 ^ 32) (right_true (not (length x == 0)) (nat_lt (length x) (2 ^ 32)) ab) in
+    (u, next_in Tables s (table_line (length s.tables) x) u ph (where_holds t u test),
+    record { name = omega (arith, few); many = short; some = not_none (length x) (left_true (not (length x == 0)) (nat_lt (length x) (2 ^ 32)) ab); fit = right_true (not (length x == 0) && nat_lt (length x) (2 ^ 32)) (list_all fits_64 x) f },
+    goes_to (tables_lines (length s.tables + 1) ts) u (record u { tables = (s.tables ++ x ∷ []) ++ ts }) (record s { tables = s.tables ++ (x ∷ ts) }) (ap (λ xs. record s { tables = xs }) (append_assoc s.tables (x ∷ []) ts))
+    (subst (λ n. Goes u (tables_lines n ts) (record u { tables = (s.tables ++ x ∷ []) ++ ts })) long (tables_go ts u ph (right_true (table_formed x) (list_all table_formed ts) formed) (omega (arith, long, few)))))
+
+some_is : (n : ℕ) → 0 < n → not (n == 0) ≡ true
+some_is n h = grind (arith, h)
+
+some_not : (n : ℕ) → 0 < n → (n == 0) ≡ false
+some_not n h = grind (arith, h)
+
+zero_more : (n : ℕ) → 0 + n ≡ n
+zero_more n = omega arith
+
+one_product : (n : ℕ) → 1 * n ≡ n
+one_product n = omega arith
+
+one_level : (l w n : ℕ) → n ≡ l * w → n ≤ w → 0 < w → 0 < l → l ≡ 1
+one_level zero w n h i some lev = absurd (omega (arith, lev))
+one_level (suc zero) w n h i some lev = refl
+one_level (suc (suc l)) w n h i some lev = let two_levels = products 2 (suc (suc l)) w (omega arith) in absurd (omega (arith, two_levels, h, i, some))
+
+same_program : (p q : Program) → p.tables ≡ q.tables → p.cells ≡ q.cells → p.levels ≡ q.levels → p.workers ≡ q.workers → p.steps ≡ q.steps → p ≡ q
+same_program p q a b c d e =
+    ap (λ x. record p { tables = x }) a
+    ∙ (ap (λ x. record p { tables = q.tables; cells = x }) b
+    ∙ (ap (λ x. record p { tables = q.tables; cells = q.cells; levels = x }) c
+    ∙ (ap (λ x. record p { tables = q.tables; cells = q.cells; levels = q.levels; workers = x }) d
+    ∙ ap (λ x. record q { steps = x }) e)))
+
+-- the lines of a program lead from nothing to its end
+pub record Ends (p : Program) : Type 0 where
+  pub last : State
+  pub goes : Goes nothing_read (program_lines p) last
+  pub phase : last.phase ≡ Ended
+  pub program : program_in last ≡ p
+
+module _ (p : Program) (wf : IsWellFormed p) where
+  abbrev s1 : State
+  s1 = record nothing_read { phase = Headed }
+
+  abbrev s2 : State
+  s2 = record nothing_read { phase = Tables }
+
+  abbrev s3 : State
+  s3 = record s2 { tables = [] ++ p.tables }
+
+  abbrev s4 : State
+  s4 = record s3 { phase = Celled; cells = p.cells }
+
+  abbrev s5 : State
+  s5 = record s4 { phase = Between }
+
+  front_goes : Goes nothing_read (front_lines p.tables p.cells) s5
+  front_goes =
+      let few = wf.tables_fit in let some = wf.some_cell in let fit = wf.cells_fit in
+      let a : Goes nothing_read (head_line ∷ type_line ∷ tables_lines 0 p.tables) s3 =
+      (s1, next_in Start nothing_read head_line s1 refl refl, tt, (s2, next_in Headed s1 type_line s2 refl refl, tt, tables_go p.tables s2 refl wf.tables (omega (arith, few)))) in
+      let b : Goes s3 (v_line p.cells ∷ f_line p.cells ∷ []) s5 =
+      (s4, next_in Tables s3 (v_line p.cells) s4 refl (where_holds (not (p.cells == 0)) s4 (some_is p.cells some)), fit,
+      (s5, next_in Celled s4 (f_line p.cells) s5 refl (where_holds (p.cells == p.cells) s5 (self p.cells)), fit, refl)) in
+      goes_on (head_line ∷ type_line ∷ tables_lines 0 p.tables) (v_line p.cells ∷ f_line p.cells ∷ []) nothing_read s3 s5 a b
+
+  steps_arrive : Arrived p.workers p.levels wf.some_worker wf.workers_fit wf.levels_fit s5 (steps_lines p.workers 0 0 p.steps) p.tables p.cells p.steps (length p.steps)
+  steps_arrive =
+      let count = wf.count in
+      let r = steps_go p.workers p.levels wf.some_worker wf.workers_fit wf.levels_fit p.tables p.cells wf.tables_fit p.steps s5 0 0 0 [] refl (omega (arith, count)) (record { phase = refl; tables = refl; cells = refl; steps = refl; stands = inl (omega arith, refl, refl, refl) }) wf.steps in
+      let b = r.between in
+      record { last = r.last; goes = r.goes; between = record { phase = b.phase; tables = b.tables; cells = b.cells; steps = b.steps; stands = subst (λ n. Stands r.last p.workers n) (zero_more (length p.steps)) b.stands } }
+
+  -- `run` begins
+  record Starts (s : State) : Type 0 where
+    into : State
+    goes : after_between s run_line ≡ Some into
+    runs : (into.phase ≡ Running) × (into.workers ≡ p.workers) × (into.levels ≡ p.levels) × (into.level ≡ 0) × (into.worker ≡ 0)
+    same : (into.tables ≡ s.tables) × (into.cells ≡ s.cells) × (into.steps ≡ s.steps)
+
+  starts : (s : State) → Stands s p.workers (length p.steps) → Starts s
+  starts s (inl c) =
+      let count = wf.count in let some = wf.some_worker in let lev = wf.some_level in let within = c.0 in let none = c.1 in let is = c.3 in
+      let one : p.levels ≡ 1 = one_level p.levels p.workers (length p.steps) count within some lev in
+      let whole : s.worker ≡ p.workers = is ∙ (count ∙ (ap (λ n. n * p.workers) one ∙ one_product p.workers)) in
+      let into = record s { phase = Running; workers = s.worker; levels = 1; level = 0; worker = 0 } in
+      record {
+        into = into;
+        goes = by_first (s.workers == 0) (where_true (not (s.worker == 0)) into) (where_true (s.worker == 0) (record s { phase = Running; levels = s.level; level = 0; worker = 0 })) (test_same s.workers 0 none) ∙ where_holds (not (s.worker == 0)) into (some_is s.worker (omega (arith, whole, some)));
+        runs = (refl, whole, sym one, refl, refl);
+        same = (refl, refl, refl);
+      }
+  starts s (inr c) =
+      let count = wf.count in let some = wf.some_worker in let is = c.1 in
+      let here : two p.levels 0 ≡ two s.level s.worker = sym (place_end p.workers p.levels some) ∙ (ap (place p.workers 0 0) (sym count) ∙ c.2) in
+      let none : 0 ≡ s.worker = ap (λ (q : ℕ × ℕ). q.1) here in let level : p.levels ≡ s.level = ap (λ (q : ℕ × ℕ). q.0) here in
+      let into = record s { phase = Running; levels = s.level; level = 0; worker = 0 } in
+      record {
+        into = into;
+        goes = by_second (s.workers == 0) (where_true (not (s.worker == 0)) (record s { phase = Running; workers = s.worker; levels = 1; level = 0; worker = 0 })) (where_true (s.worker == 0) into) (some_not s.workers (omega (arith, is, some))) ∙ where_holds (s.worker == 0) into (test_same s.worker 0 (sym none));
+        runs = (refl, is, sym level, refl, refl);
+        same = (refl, refl, refl);
+      }
+
+  pub program_ends : Ends p
+  program_ends =
+      let a = steps_arrive in let b = a.between in
+      let r = starts a.last b.stands in
+      let s6 = r.into in let s7 = record s6 { level = p.levels; worker = 0 } in let s8 = record s7 { phase = Ended } in
+      let count = wf.count in
+      let calls = calls_go p.workers p.levels wf.some_worker wf.workers_fit wf.levels_fit (length p.steps) s6 0 0 0 (record { phase = r.runs.0; workers = r.runs.1; whole = r.runs.2; level = r.runs.3; worker = r.runs.4; at = refl }) (omega (arith, count)) in
+      let close : Goes s7 (close_line ∷ []) s8 = (s8, next_in Running s7 close_line s8 r.runs.0 (where_holds (p.levels == s6.levels) s8 (test_same p.levels s6.levels (sym r.runs.2))), tt, refl) in
+      let rest : Goes a.last (run_line ∷ (calls_lines p.workers 0 0 (length p.steps) ++ close_line ∷ [])) s8 =
+      (s6, next_in Between a.last run_line s6 b.phase r.goes, tt, goes_on (calls_lines p.workers 0 0 (length p.steps)) (close_line ∷ []) s6 s7 s8 calls close) in
+      record {
+        last = s8;
+        goes = goes_on (front_lines p.tables p.cells ++ steps_lines p.workers 0 0 p.steps) (run_line ∷ (calls_lines p.workers 0 0 (length p.steps) ++ close_line ∷ [])) nothing_read a.last s8
+          (goes_on (front_lines p.tables p.cells) (steps_lines p.workers 0 0 p.steps) nothing_read s5 a.last front_goes a.goes) rest;
+        phase = refl;
+        program = same_program (program_in s8) p (r.same.0 ∙ b.tables) (r.same.1 ∙ b.cells) r.runs.2 r.runs.1 (r.same.2 ∙ b.steps);
+      }

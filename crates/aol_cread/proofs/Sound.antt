@@ -53,6 +53,7 @@ pub record Placed (s : State) : Type 0 where
   pub known : First s ⊎ Known s
   pub level : s.level < 2 ^ 32
   pub worker : s.worker < 2 ^ 32
+  pub higher : 0 < s.worker → s.level + 1 < 2 ^ 32
 
 pub record Whole (s : State) : Type 0 where
   pub count : length s.steps ≡ s.levels * s.workers
@@ -198,6 +199,7 @@ in_cells s t (f_line cells) ls h r =
         known = inl (record { workers = none.workers; level = level });
         level = omega (arith, level);
         worker = omega (arith, worker);
+        higher = λ h. absurd (omega (arith, h, worker));
       };
       lines = ap (λ z. z ++ f_line cells ∷ []) r.lines ∙ (append_assoc (head_line ∷ type_line ∷ tables_lines 0 s.tables) (v_line s.cells ∷ []) (f_line cells ∷ [])
       ∙ (ap (λ c. (head_line ∷ type_line ∷ tables_lines 0 s.tables) ++ v_line s.cells ∷ f_line c ∷ []) one

@@ -5,3 +5,5 @@ pub mod States
 pub mod Next
 pub mod Stored
 pub mod Parts
+pub mod Wrong
+pub mod Step

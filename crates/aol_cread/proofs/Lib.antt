@@ -12,4 +12,5 @@ pub mod Complete
 pub mod Programs
 pub mod Live
 pub mod Texts
+pub mod Whole
 

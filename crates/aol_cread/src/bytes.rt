@@ -29,6 +29,7 @@ fn is_clear(left: &[u8]) -> bool
 }
 
 /// A text, read from its front.
+#[derive(Drop)]
 pub(crate) struct Reader<'t> {
     pub(crate) left: &'t [u8],
 }

@@ -11,4 +11,4 @@ mod line;
 mod read;
 mod reading;
 
-pub use read::ReadCRefused;
+pub use read::{ReadCRefused, read_c};

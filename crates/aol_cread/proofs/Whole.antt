@@ -13,7 +13,7 @@ use Rattle.aol_cread.specs.Bytes.{found}
 use Rattle.aol_cread.specs.Lines.{Line, head_line, type_line, table_line, v_line, f_line, step_line, var_line, set_line, put_v_line, put_f_line, if_line, else_line, for_line, close_line, run_line, call_line, onto, read_line}
 use Rattle.aol_cread.specs.States.{State, room_in, program_in}
 use Rattle.aol_cread.specs.Next.{next, nothing_read}
-use Rattle.aol_cread.specs.Step.{taken}
+use Rattle.aol_cread.specs.Step.{taken, Takes}
 use Rattle.aol_cread.specs.Wrong.{IsTextOf, BeginsProgram, IsLine, AreLines, in_front, IsFirstWrongLine}
 use Rattle.aol_cread.specs.declared.building.Phase.{Phase}
 use Rattle.aol_cread.specs.declared.building.Phase.TheVariants.{Ended}
@@ -301,3 +301,24 @@ module _ (text : List ℕ) (s : State) (line : ℕ) where
           };
           stops = stops;
         }
+
+-- ---- as the code tells it
+
+pub refused_at : (b : Bool) (s u : State) (t r : List ℕ) → Takes s t b u r → b ≡ false → taken s t ≡ None
+refused_at false s u t r h is = h
+refused_at true s u t r h is = absurd (cc)
+
+pub taken_at : (b : Bool) (s u : State) (t r : List ℕ) → Takes s t b u r → b ≡ true → taken s t ≡ Some (u, r)
+taken_at true s u t r h is = h
+taken_at false s u t r h is = absurd (cc)
+
+pub nothing_taken : (s : State) → taken s [] ≡ None
+unfolding Rattle.aol_cread.specs.Lines.read_line Rattle.aol_cread.specs.Bytes.expect
+nothing_taken s = refl
+
+pub no_bytes : (t : List ℕ) → length t ≡ 0 → t ≡ []
+no_bytes [] h = refl
+no_bytes (b ∷ t) h = absurd (omega (arith, h))
+
+pub some_bytes : (t : List ℕ) → t ≡ [] → 0 < length t → ⊥
+some_bytes t h some = let n = ap (λ (xs : List ℕ). length xs) h in omega (arith, n, some)

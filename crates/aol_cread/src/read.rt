@@ -1,4 +1,4 @@
-ghost use Rattle.std.specs.Prelude.{◌≡◌, ◌<◌, ◌^◌, length, IfOk};
+ghost use Rattle.std.specs.Prelude.{◌≡◌, ◌+◌, ◌<◌, ◌^◌, length, IfOk};
 ghost use Rattle.aol_csyn.specs.Stored.{program_of};
 ghost use Rattle.aol_cread.specs.Wrong.{IfAt, IsFirstWrongLine, IsTextOf};
 ghost use Rattle.aol_cread.specs.Step.{Takes};
@@ -84,9 +84,9 @@ impl Building {
 ///
 /// `At` comes exactly where no program has this text, with the first line such that no program's
 /// text begins with the lines up to it, line feeds included. Where all whole lines pass, it is the
-/// line after the last of them. The text has fewer than 2^32 bytes.
+/// line after the last of them. The text has fewer than 2^32 - 1 bytes.
 pub fn read_c(alloc: Global, text: &str) -> Result<CProgram, ReadCRefused>
-    requires { length text.now < 2 ^ 32 }
+    requires { length text.now + 1 < 2 ^ 32 }
     ensures program { IfOk result (λ p. IsTextOf (program_of p) text.now) }
     ensures at { IfAt result (λ line. IsFirstWrongLine text.now line) }
 {

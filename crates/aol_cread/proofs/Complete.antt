@@ -1,19 +1,18 @@
 -- That the lines of a well formed program lead to its end.
-use Rattle.std.specs.Prelude.{◌≡◌, ℕ, zero, suc, ◌+◌, ◌*◌, ◌-◌, ◌^◌, ◌<◌, ◌≤◌, max, nat_lt, nat_le, ◌==◌, int_le, Bool, true, false, ◌&&◌, ◌||◌, not, ℤ, List, [], ◌∷◌, ◌++◌, length, if◌then◌else◌, Option, Some, None}
-use Rattle.std.specs.List.{list_all}
-use Rattle.std.proofs.Common.{subst, sym, refl, ap, arith, ◌∙◌, append_assoc, length-append, inl, inr, ◌⊎◌}
+use Rattle.std.specs.Prelude.{◌≡◌, ℕ, ◌+◌, ◌^◌, ◌<◌, ◌≤◌, nat_lt, ◌==◌, int_le, Bool, true, false, ◌&&◌, ◌||◌, not, List, [], ◌∷◌, ◌++◌, length, Some}
+use Rattle.std.proofs.Common.{subst, sym, refl, ap, arith, ◌∙◌, append_assoc}
 use Rattle.std.proofs.lemmas.List.{append-nil}
 use Rattle.aol_shape.specs.Numbers.{fits_64}
-use Rattle.aol_csyn.specs.Tree.{Expr, num, var, tab, cell_v, cell_f, bin, Stmt, set_var, put_v, put_f, if_else, for_each, Stmts, no_stmts, stmt_and, stmts, Step, Program}
-use Rattle.aol_csyn.specs.Form.{expr_depth, expr_formed, stmt_depth, stmts_depth, sets, any_sets, stmt_formed, stmts_formed, step_formed, table_formed, IsWellFormed}
-use Rattle.aol_cread.specs.Lines.{Line, head_line, type_line, table_line, v_line, f_line, step_line, var_line, set_line, put_v_line, put_f_line, if_line, else_line, for_line, close_line, run_line, call_line}
-use Rattle.aol_cread.specs.States.{Frame, in_for, in_first, in_second, State, is_held, room_in, program_in}
-use Rattle.aol_cread.specs.Next.{where_true, with_stmt, with_frame, fits_here, advanced, opened, has_room, second_level, after_between, closed, turned, is_empty, after_inside, after_running, after_phase, next, nothing_read}
+use Rattle.aol_csyn.specs.Tree.{Expr, num, var, tab, cell_v, cell_f, bin, Stmt, set_var, put_v, put_f, if_else, for_each, Stmts, no_stmts, stmt_and, stmts}
+use Rattle.aol_csyn.specs.Form.{expr_depth, expr_formed, stmts_depth, sets, any_sets, stmt_formed, stmts_formed}
+use Rattle.aol_cread.specs.Lines.{Line, set_line, put_v_line, put_f_line, if_line, else_line, for_line, close_line}
+use Rattle.aol_cread.specs.States.{Frame, in_for, in_first, in_second, State, is_held, room_in}
+use Rattle.aol_cread.specs.Next.{where_true, with_stmt, with_frame, fits_here, after_inside, after_phase, next}
 use Rattle.aol_cread.specs.declared.building.Phase.{Phase}
-use Rattle.aol_cread.specs.declared.building.Phase.TheVariants.{Start, Headed, Tables, Celled, Between, Inside, Running, Ended}
+use Rattle.aol_cread.specs.declared.building.Phase.TheVariants.{Inside}
 use Rattle.aol_cread.proofs.Exprs.{both_true, left_true, right_true, Sized}
 use Rattle.aol_cread.proofs.OneLine.{FitsLine}
-use Rattle.aol_cread.proofs.Shown.{stmt_lines, stmts_lines, tables_lines, vars_lines, step_lines, steps_lines, calls_lines, front_lines, program_lines, place, StmtFits}
+use Rattle.aol_cread.proofs.Shown.{stmt_lines, stmts_lines, StmtFits}
 
 -- ---- lines that lead on
 
@@ -151,10 +150,13 @@ mutual
       let in_one : StmtsFit vars tables s1.frames first = record { formed = right_true a b ab; depth = omega (arith, low); free = λ k h. left_false (any_sets k first) (any_sets k second) (f.free k h) } in
       let in_two : StmtsFit vars tables s3.frames second = record { formed = right_true (a && b) c f.formed; depth = omega (arith, low); free = λ k h. right_false (any_sets k first) (any_sets k second) (f.free k h) } in
       let close : Goes s4 (close_line ∷ []) s5 = one_line s4 s5 close_line o.phase refl tt in
-      let same : s5 ≡ with_stmt s (if_else e first second) = ap (λ x. with_stmt s (if_else e x (stmts (list_of second)))) (listed first) ∙ ap (λ x. with_stmt s (if_else e first x)) (listed second) in
-      (s1, next_in Inside s (if_line e) s1 o.phase (where_holds a s1 (left_true a b ab)), sized s e o (left_true a b ab) (omega (arith, low)),
-      goes_on (stmts_lines first) (else_line ∷ (stmts_lines second ++ close_line ∷ [])) s1 s2 (with_stmt s (if_else e first second)) (stmts_goes first s1 o1 in_one)
-      (s3, next_in Inside s2 else_line s3 o.phase refl, tt, goes_on (stmts_lines second) (close_line ∷ []) s3 s4 (with_stmt s (if_else e first second)) (stmts_goes second s3 o3 in_two) (goes_to (close_line ∷ []) s4 s5 (with_stmt s (if_else e first second)) same close)))
+      let same : s5 ≡ with_stmt s (if_else e first second) = ap (λ x. with_stmt s (if_else e x (stmts (list_of second)))) (listed first) ∙ ap (λ x. with_stmt s (if_else e first x)) (listed second) in (
+        s1,
+        next_in Inside s (if_line e) s1 o.phase (where_holds a s1 (left_true a b ab)),
+        sized s e o (left_true a b ab) (omega (arith, low)),
+        goes_on (stmts_lines first) (else_line ∷ (stmts_lines second ++ close_line ∷ [])) s1 s2 (with_stmt s (if_else e first second)) (stmts_goes first s1 o1 in_one)
+            (s3, next_in Inside s2 else_line s3 o.phase refl, tt, goes_on (stmts_lines second) (close_line ∷ []) s3 s4 (with_stmt s (if_else e first second)) (stmts_goes second s3 o3 in_two) (goes_to (close_line ∷ []) s4 s5 (with_stmt s (if_else e first second)) same close)),
+      )
   stmt_goes (for_each k x y body) s o f =
       let vars = s.vars in let tables = length s.tables in
       let a = nat_lt k vars in let b = fits_64 x in let c = fits_64 y in let d = int_le x y in let e = not (any_sets k body) in let g = stmts_formed vars tables body in
@@ -171,10 +173,12 @@ mutual
         depth = omega (arith, low);
         free = λ j h. for_free (k == j) j k s.frames body refl h own (λ i. right_false (k == j) (any_sets j body) (f.free j i));
       } in
-      let close : Goes s2 (close_line ∷ []) s3 = one_line s2 s3 close_line o.phase refl tt in
-      (s1, next_in Inside s (for_line k x y) s1 o.phase (where_holds (a && d && u && v) s1 (both_true (a && d && u) v (both_true (a && d) u (both_true a d name (right_true (a && b && c) d abcd)) (not_is (is_held k s.frames) free)) (under (length s.frames) 1024 (omega (arith, low))))),
-      (omega (arith, small, few), right_true a b ab, right_true (a && b) c abc),
-      goes_on (stmts_lines body) (close_line ∷ []) s1 s2 (with_stmt s (for_each k x y body)) (stmts_goes body s1 o1 inside) (goes_to (close_line ∷ []) s2 s3 (with_stmt s (for_each k x y body)) (ap (λ z. with_stmt s (for_each k x y z)) (listed body)) close))
+      let close : Goes s2 (close_line ∷ []) s3 = one_line s2 s3 close_line o.phase refl tt in (
+        s1,
+        next_in Inside s (for_line k x y) s1 o.phase (where_holds (a && d && u && v) s1 (both_true (a && d && u) v (both_true (a && d) u (both_true a d name (right_true (a && b && c) d abcd)) (not_is (is_held k s.frames) free)) (under (length s.frames) 1024 (omega (arith, low))))),
+        (omega (arith, small, few), right_true a b ab, right_true (a && b) c abc),
+        goes_on (stmts_lines body) (close_line ∷ []) s1 s2 (with_stmt s (for_each k x y body)) (stmts_goes body s1 o1 inside) (goes_to (close_line ∷ []) s2 s3 (with_stmt s (for_each k x y body)) (ap (λ z. with_stmt s (for_each k x y z)) (listed body)) close),
+      )
 
   pub stmts_goes : (sts : Stmts) (s : State) → Open s → StmtsFit s.vars (length s.tables) s.frames sts → Goes s (stmts_lines sts) (record s { here = s.here ++ list_of sts })
   stmts_goes no_stmts s o f = ap (λ h. record s { here = h }) (sym (append-nil s.here))

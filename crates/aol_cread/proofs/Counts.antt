@@ -1,8 +1,8 @@
 -- Numbers in decimal digits: what is written is read, and what is read was written.
-use Rattle.std.specs.Prelude.{◌≡◌, ℕ, zero, suc, ◌+◌, ◌*◌, ◌-◌, ◌/◌, ◌%◌, ◌^◌, ◌<◌, ◌≤◌, nat_lt, nat_le, ◌==◌, Bool, true, false, ◌&&◌, List, [], ◌∷◌, ◌++◌, length, decimal, Option, Some, None, if◌then◌else◌}
-use Rattle.std.proofs.Common.{subst, sym, refl, ap, arith, ◌∙◌, append_assoc}
+use Rattle.std.specs.Prelude.{◌≡◌, ℕ, zero, suc, ◌+◌, ◌*◌, ◌-◌, ◌/◌, ◌%◌, ◌^◌, ◌<◌, ◌≤◌, nat_lt, ◌==◌, Bool, true, false, List, [], ◌∷◌, ◌++◌, decimal, Some, None, if◌then◌else◌}
+use Rattle.std.proofs.Common.{sym, refl, ap, arith, ◌∙◌, append_assoc}
 use Rattle.std.proofs.lemmas.Fmt.{decimal_digit, decimal_step, decimal_by_steps}
-use Rattle.aol_cread.specs.Bytes.{Read, found, is_digit, is_clear, more_digits, read_count}
+use Rattle.aol_cread.specs.Bytes.{found, is_digit, is_clear, more_digits, read_count}
 use Rattle.aol_cread.proofs.Formats.{Sound, Complete, some_pair}
 
 digit_low : (b : ℕ) → is_digit b ≡ true → 48 ≤ b

@@ -1,15 +1,14 @@
 -- Expressions: what is written is read, and what is read was written.
-use Rattle.std.specs.Prelude.{◌≡◌, ℕ, zero, suc, ◌+◌, ◌*◌, ◌-◌, ◌^◌, ◌<◌, ◌≤◌, max, nat_lt, nat_le, ◌==◌, Bool, true, false, ◌&&◌, List, [], ◌∷◌, ◌++◌, length, codes, decimal, ℤ, pos, negsuc, Option, Some, None, option_map, option_and_then, if◌then◌else◌}
-use Rattle.std.proofs.Common.{subst, sym, refl, ap, arith, ◌∙◌, append_assoc, inl, inr, ◌⊎◌}
-use Rattle.aol_shape.specs.Numbers.{fits_64}
+use Rattle.std.specs.Prelude.{◌≡◌, ℕ, zero, suc, ◌^◌, ◌<◌, ◌≤◌, nat_lt, ◌==◌, Bool, true, false, ◌&&◌, List, [], ◌∷◌, ◌++◌, length, codes, decimal, ℤ, pos, negsuc, Option, Some, None, option_map, option_and_then, if◌then◌else◌}
+use Rattle.std.proofs.Common.{subst, sym, refl, ap, arith, ◌∙◌}
 use Rattle.aol_csyn.specs.declared.program.COp.{COp}
 use Rattle.aol_csyn.specs.Tree.{Expr, num, var, tab, cell_v, cell_f, bin}
 use Rattle.aol_csyn.specs.Form.{expr_depth, expr_formed}
 use Rattle.aol_csyn.specs.Text.{number_text, op_text, expr_text}
 use Rattle.aol_csyn.proofs.Numbers.{pos_text, bounds, bounds_below, AreDigits, decimal_digits, nonempty}
 use Rattle.aol_csyn.proofs.Expressions.{text_tab, text_cell_v, text_cell_f, text_bin}
-use Rattle.aol_cread.specs.Bytes.{Read, found, expect, choose, after, before, between, mapped, is_digit, is_clear, read_count, read_negative, read_positive, read_op, read_bin, read_expr}
-use Rattle.aol_cread.proofs.Formats.{split, split_map, expect_is, expect_sound, Sound, Complete, sound_before, complete_before, sound_choose, sound_mapped, complete_mapped, sound_between, complete_between, sound_form, sound_joined, sound_after}
+use Rattle.aol_cread.specs.Bytes.{Read, expect, choose, after, before, between, mapped, is_clear, read_count, read_negative, read_positive, read_op, read_bin, read_expr}
+use Rattle.aol_cread.proofs.Formats.{split, split_map, expect_is, expect_sound, Sound, Complete, sound_before, sound_choose, sound_mapped, complete_mapped, sound_between, sound_form, sound_joined}
 use Rattle.aol_cread.proofs.Counts.{sound_count, complete_count}
 use Rattle.aol_cread.proofs.Values.{counts_onto, number_onto, Fits, sound_positive, complete_positive, sound_negative, complete_negative, first_byte, no_front, sound_op, complete_op, op_clear}
 
@@ -82,10 +81,12 @@ module _ (room : ℕ) where
         let left : last.value.1 ≡ r = ap (λ (p : Expr × List ℕ). p.1) last.gives in
         let one = own s.value a first.value.1 first.is in
         let two = sound_op first.value.1 op sign.value.1 sign.is in
-        let three = closed (codes ")") sign.value.1 b last.value.1 last.is in
-        (expect_sound (codes "(") t s.value s.is
-        ∙ (ap (λ z. 40 ∷ z) (one.0 ∙ ap (λ z. expr_text a ++ z) (two ∙ ap (λ z. op_text op ++ z) three.0))
-        ∙ (sym (text_bin op a b last.value.1) ∙ (ap (λ x. expr_text x ++ last.value.1) is ∙ ap (λ z. expr_text e ++ z) left))), subst (Sized (suc room)) is (sized_bin op a b one.1 three.1))
+        let three = closed (codes ")") sign.value.1 b last.value.1 last.is in (
+          expect_sound (codes "(") t s.value s.is
+              ∙ (ap (λ z. 40 ∷ z) (one.0 ∙ ap (λ z. expr_text a ++ z) (two ∙ ap (λ z. op_text op ++ z) three.0))
+              ∙ (sym (text_bin op a b last.value.1) ∙ (ap (λ x. expr_text x ++ last.value.1) is ∙ ap (λ z. expr_text e ++ z) left))),
+          subst (Sized (suc room)) is (sized_bin op a b one.1 three.1),
+        )
 
     deeper : Sound (read_expr (suc room)) expr_onto (Sized (suc room))
     unfolding read_expr

@@ -1,6 +1,6 @@
 -- Readers of what is spelled in front of a text, made of one another.
 use Rattle.std.specs.Prelude.{◌≡◌, ℕ, Bool, true, false, List, [], ◌∷◌, ◌++◌, length, nat_eq, ◌==◌, ◌&&◌, Option, Some, None, option_map, option_and_then, if◌then◌else◌}
-use Rattle.std.proofs.Common.{subst, sym, refl, ap, arith, ◌∙◌, append_assoc, take, drop}
+use Rattle.std.proofs.Common.{subst, refl, ap, arith, ◌∙◌, take, drop}
 use Rattle.std.specs.Cmp.Lexicographic.{pointwise}
 use Rattle.aol_cread.specs.Bytes.{Read, found, expect, choose, after, before, between, mapped, is_clear}
 

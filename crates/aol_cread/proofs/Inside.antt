@@ -1,23 +1,20 @@
 -- That the next line of a step, between steps or of `run` leads on.
-use Rattle.std.specs.Prelude.{◌≡◌, ℕ, zero, suc, ◌+◌, ◌*◌, ◌-◌, ◌^◌, ◌<◌, ◌≤◌, max, nat_lt, nat_le, ◌==◌, int_le, Bool, true, false, ◌&&◌, ◌||◌, not, ℤ, List, [], ◌∷◌, ◌++◌, length, if◌then◌else◌, Option, Some, None}
-use Rattle.std.specs.List.{list_all}
-use Rattle.std.proofs.Common.{subst, sym, refl, ap, arith, ◌∙◌, append_assoc, length-append, inl, inr, ◌⊎◌}
+use Rattle.std.specs.Prelude.{◌≡◌, ℕ, suc, ◌+◌, ◌*◌, ◌^◌, ◌<◌, ◌≤◌, max, nat_lt, nat_le, ◌==◌, int_le, Bool, true, false, ◌&&◌, ◌||◌, not, ℤ, List, [], ◌∷◌, ◌++◌, length, if◌then◌else◌, Some}
+use Rattle.std.proofs.Common.{subst, sym, refl, ap, arith, ◌∙◌, append_assoc, inl, inr, ◌⊎◌}
 use Rattle.std.proofs.lemmas.List.{append-nil}
 use Rattle.aol_shape.specs.Numbers.{fits_64}
-use Rattle.aol_csyn.specs.Tree.{Expr, num, var, tab, cell_v, cell_f, bin, Stmt, set_var, put_v, put_f, if_else, for_each, Stmts, no_stmts, stmt_and, stmts, Step, Program}
-use Rattle.aol_csyn.specs.Form.{expr_depth, expr_formed, stmt_depth, stmts_depth, sets, any_sets, stmt_formed, stmts_formed, step_formed, table_formed, IsWellFormed}
-use Rattle.aol_cread.specs.Lines.{Line, head_line, type_line, table_line, v_line, f_line, step_line, var_line, set_line, put_v_line, put_f_line, if_line, else_line, for_line, close_line, run_line, call_line}
+use Rattle.aol_csyn.specs.Tree.{Expr, num, var, tab, cell_v, cell_f, bin, Stmt, set_var, put_v, put_f, if_else, for_each, stmts, Step}
+use Rattle.aol_csyn.specs.Form.{expr_depth, expr_formed, stmt_depth, stmts_depth, sets, any_sets, stmt_formed, stmts_formed, step_formed, IsWellFormed}
+use Rattle.aol_cread.specs.Lines.{Line, step_line, var_line, set_line, put_v_line, put_f_line, if_line, else_line, for_line, close_line, run_line, call_line}
 use Rattle.aol_cread.specs.States.{Frame, in_for, in_first, in_second, State, is_held, room_in, program_in}
 use Rattle.aol_cread.specs.Next.{where_true, with_stmt, with_frame, fits_here, advanced, opened, has_room, second_level, after_between, closed, turned, is_empty, after_inside, after_running, after_phase, next, nothing_read}
 use Rattle.aol_cread.specs.declared.building.Phase.{Phase}
 use Rattle.aol_cread.specs.declared.building.Phase.TheVariants.{Start, Headed, Tables, Celled, Between, Inside, Running, Ended}
 use Rattle.aol_cread.proofs.Exprs.{both_true, left_true, right_true, Sized}
 use Rattle.aol_cread.proofs.OneLine.{FitsLine}
-use Rattle.aol_cread.proofs.Shown.{stmt_lines, stmts_lines, tables_lines, vars_lines, step_lines, steps_lines, calls_lines, front_lines, program_lines, place, nested_lines, Inner, StmtFits, ForFits, IfFits, Nested, nested_more, nested_inner, nested_with, nested_add, inner_none}
-use Rattle.aol_cread.proofs.Places.{tables_more, vars_more, two, next_place, place_more, steps_more, calls_more, before_place, place_zero, first_level, level_ends}
-
-use Rattle.aol_cread.proofs.Sound.{Tabled, NoStep, Celled', Made, Known, First, Placed, Whole, base, InTables, InCells, InBetween, InStep, InRun, AtEnd, AtStart, ReachedAt, Reached, held, same_numbers, below, not_zero, is_not, all_more, long_more, nothing_there, in_tables, in_cells, at_start, at_second}
-
+use Rattle.aol_cread.proofs.Shown.{stmt_lines, stmts_lines, vars_lines, step_lines, steps_lines, calls_lines, front_lines, program_lines, place, nested_lines, Inner, StmtFits, Nested, nested_more, nested_inner, nested_add, inner_none}
+use Rattle.aol_cread.proofs.Places.{vars_more, two, next_place, place_more, steps_more, calls_more, before_place, place_zero, first_level, level_ends}
+use Rattle.aol_cread.proofs.Sound.{Made, Known, First, Placed, base, InBetween, InStep, InRun, AtEnd, ReachedAt, Reached, held, same_numbers, below, not_zero, is_not, all_more, long_more, nothing_there, in_tables, in_cells, at_start, at_second}
 
 -- ---- between steps
 
@@ -140,7 +137,7 @@ changed s ls l fs here is r n text =
       vars = r.vars;
       nested = n;
       lines = ap (λ z. z ++ l ∷ []) r.lines ∙ (inside_lines (base s) (vars_lines 0 s.vars) (nested_lines s.frames s.here) (l ∷ []) (step_line s.level s.worker)
-      ∙ ap (λ z. base s ++ (step_line s.level s.worker ∷ (vars_lines 0 s.vars ++ z))) text);
+          ∙ ap (λ z. base s ++ (step_line s.level s.worker ∷ (vars_lines 0 s.vars ++ z))) text);
     } in
     subst (λ ph. ReachedAt ph u (ls ++ l ∷ [])) (sym is) now
 
@@ -161,6 +158,7 @@ some_depth (bin op a b) = omega arith
 -- depth
 deep : (s : State) (e : Expr) → Sized (room_in s) e → expr_depth e + 1 + length s.frames ≤ 1024
 deep s e sized = let low = sized.depth in let some = some_depth e in omega (arith, low, some)
+
 byte_self : (b : ℕ) → (b == b) ≡ true
 byte_self b = grind arith
 
@@ -190,9 +188,9 @@ for_fits vars tables fs k a b before here n =
     let self : is_held k (in_for k a b before ∷ fs) ≡ true = or_left (k == k) (is_held k fs) (byte_self k) in
     record {
       formed = both_true (nat_lt k vars && fits_64 a && fits_64 b && int_le a b && not (any_sets k (stmts here))) (stmts_formed vars tables (stmts here))
-        (both_true (nat_lt k vars && fits_64 a && fits_64 b && int_le a b) (not (any_sets k (stmts here)))
-        (both_true (nat_lt k vars && fits_64 a && fits_64 b) (int_le a b) (both_true (nat_lt k vars && fits_64 a) (fits_64 b) (both_true (nat_lt k vars) (fits_64 a) f.name f.first) f.second) f.ordered)
-        (ap not (i.free k self))) i.formed;
+          (both_true (nat_lt k vars && fits_64 a && fits_64 b && int_le a b) (not (any_sets k (stmts here)))
+          (both_true (nat_lt k vars && fits_64 a && fits_64 b) (int_le a b) (both_true (nat_lt k vars && fits_64 a) (fits_64 b) (both_true (nat_lt k vars) (fits_64 a) f.name f.first) f.second) f.ordered)
+          (ap not (i.free k self))) i.formed;
       depth = omega (arith, low);
       free = λ j h. neither (k == j) (any_sets j (stmts here)) (apart j k fs h f.free) (i.free j (or_right (k == j) (is_held j fs) h));
     }
@@ -356,12 +354,12 @@ var_added s ls k is no_frame no_stmt few ph r =
       vars = few;
       nested = subst (λ fs. Nested (s.vars + 1) (length s.tables) fs s.here) (sym no_frame) (subst (λ here. Nested (s.vars + 1) (length s.tables) [] here) (sym no_stmt) (inner_none (s.vars + 1) (length s.tables) [] (omega arith), tt));
       lines = ap (λ z. z ++ var_line k ∷ []) r.lines
-        ∙ (inside_lines (base s) (vars_lines 0 s.vars) (nested_lines s.frames s.here) (var_line k ∷ []) (step_line s.level s.worker)
-        ∙ (ap (λ fs. base s ++ (step_line s.level s.worker ∷ (vars_lines 0 s.vars ++ (nested_lines fs s.here ++ var_line k ∷ [])))) no_frame
-        ∙ (ap (λ here. base s ++ (step_line s.level s.worker ∷ (vars_lines 0 s.vars ++ (stmts_lines (stmts here) ++ var_line k ∷ [])))) no_stmt
-        ∙ (ap (λ z. base s ++ (step_line s.level s.worker ∷ z)) (ap (λ n. vars_lines 0 s.vars ++ var_line n ∷ []) (is ∙ none_more s.vars) ∙ (sym (vars_more 0 s.vars) ∙ (ap (vars_lines 0) (one_more s.vars) ∙ sym (append-nil (vars_lines 0 (s.vars + 1))))))
-        ∙ (ap (λ here. base s ++ (step_line s.level s.worker ∷ (vars_lines 0 (s.vars + 1) ++ stmts_lines (stmts here)))) (sym no_stmt)
-        ∙ ap (λ fs. base s ++ (step_line s.level s.worker ∷ (vars_lines 0 (s.vars + 1) ++ nested_lines fs s.here))) (sym no_frame))))));
+          ∙ (inside_lines (base s) (vars_lines 0 s.vars) (nested_lines s.frames s.here) (var_line k ∷ []) (step_line s.level s.worker)
+          ∙ (ap (λ fs. base s ++ (step_line s.level s.worker ∷ (vars_lines 0 s.vars ++ (nested_lines fs s.here ++ var_line k ∷ [])))) no_frame
+          ∙ (ap (λ here. base s ++ (step_line s.level s.worker ∷ (vars_lines 0 s.vars ++ (stmts_lines (stmts here) ++ var_line k ∷ [])))) no_stmt
+          ∙ (ap (λ z. base s ++ (step_line s.level s.worker ∷ z)) (ap (λ n. vars_lines 0 s.vars ++ var_line n ∷ []) (is ∙ none_more s.vars) ∙ (sym (vars_more 0 s.vars) ∙ (ap (vars_lines 0) (one_more s.vars) ∙ sym (append-nil (vars_lines 0 (s.vars + 1))))))
+          ∙ (ap (λ here. base s ++ (step_line s.level s.worker ∷ (vars_lines 0 (s.vars + 1) ++ stmts_lines (stmts here)))) (sym no_stmt)
+          ∙ ap (λ fs. base s ++ (step_line s.level s.worker ∷ (vars_lines 0 (s.vars + 1) ++ nested_lines fs s.here))) (sym no_frame))))));
     } in
     subst (λ ph. ReachedAt ph u (ls ++ var_line k ∷ [])) (sym ph) now
 
@@ -508,8 +506,18 @@ reached_none = record { tables = refl; none = record { steps = refl; level = ref
 pub ended : (s : State) (ls : List Line) → s.phase ≡ Ended → Reached s ls → IsWellFormed (program_in s) × (ls ≡ program_lines (program_in s))
 ended s ls ph r =
     let e = subst (λ ph. ReachedAt ph s ls) ph r in
-    let made = e.made in let tabled = made.tabled in let cells = made.cells in let whole = e.whole in
-    (record {
-      count = whole.count; some_cell = cells.some; cells_fit = cells.few; some_level = whole.some_level; levels_fit = whole.few_levels; some_worker = whole.some_worker;
-      workers_fit = whole.few_workers; tables_fit = tabled.many; tables = tabled.formed; steps = made.steps;
-    }, e.lines)
+    let made = e.made in let tabled = made.tabled in let cells = made.cells in let whole = e.whole in (
+      record {
+        count = whole.count;
+        some_cell = cells.some;
+        cells_fit = cells.few;
+        some_level = whole.some_level;
+        levels_fit = whole.few_levels;
+        some_worker = whole.some_worker;
+        workers_fit = whole.few_workers;
+        tables_fit = tabled.many;
+        tables = tabled.formed;
+        steps = made.steps;
+      },
+      e.lines,
+    )

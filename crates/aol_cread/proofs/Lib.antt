@@ -13,4 +13,3 @@ pub mod Programs
 pub mod Live
 pub mod Texts
 pub mod Whole
-

@@ -1,26 +1,19 @@
 -- Whatever lines lead to a state, some program's lines begin so.
-use Rattle.std.specs.Prelude.{◌≡◌, ℕ, zero, suc, ◌+◌, ◌*◌, ◌-◌, ◌^◌, ◌<◌, ◌≤◌, max, nat_lt, nat_le, ◌==◌, int_le, Bool, true, false, ◌&&◌, ◌||◌, not, ℤ, List, [], ◌∷◌, ◌++◌, length, replicate, if◌then◌else◌, Option, Some, None}
+use Rattle.std.specs.Prelude.{◌≡◌, ℕ, zero, suc, ◌+◌, ◌*◌, ◌-◌, ◌^◌, ◌<◌, ◌≤◌, ◌==◌, Bool, true, false, ℤ, List, [], ◌∷◌, ◌++◌, length, replicate}
 use Rattle.std.specs.List.{list_all}
-use Rattle.std.proofs.Common.{subst, sym, refl, ap, arith, ◌∙◌, append_assoc, length-append, inl, inr, ◌⊎◌}
+use Rattle.std.proofs.Common.{sym, refl, ap, arith, ◌∙◌, append_assoc, length-append, inl, inr, ◌⊎◌}
 use Rattle.std.proofs.lemmas.List.{append-nil, length-replicate}
-use Rattle.aol_shape.specs.Numbers.{fits_64}
-use Rattle.aol_csyn.specs.Tree.{Expr, num, var, tab, cell_v, cell_f, bin, Stmt, set_var, put_v, put_f, if_else, for_each, Stmts, no_stmts, stmt_and, stmts, Step, Program}
-use Rattle.aol_csyn.specs.Form.{expr_depth, expr_formed, stmt_depth, stmts_depth, sets, any_sets, stmt_formed, stmts_formed, step_formed, table_formed, IsWellFormed}
-use Rattle.aol_cread.specs.Lines.{Line, head_line, type_line, table_line, v_line, f_line, step_line, var_line, set_line, put_v_line, put_f_line, if_line, else_line, for_line, close_line, run_line, call_line}
-use Rattle.aol_cread.specs.States.{Frame, in_for, in_first, in_second, State, is_held, room_in, program_in}
-use Rattle.aol_cread.specs.Next.{where_true, with_stmt, with_frame, fits_here, advanced, opened, has_room, second_level, after_between, closed, turned, is_empty, after_inside, after_running, after_phase, next, nothing_read}
+use Rattle.aol_csyn.specs.Tree.{Stmt, if_else, for_each, no_stmts, stmts, Step, Program}
+use Rattle.aol_csyn.specs.Form.{step_formed, table_formed, IsWellFormed}
+use Rattle.aol_cread.specs.Lines.{Line, head_line, type_line, v_line, f_line, step_line, if_line, else_line, for_line, close_line, run_line, call_line}
+use Rattle.aol_cread.specs.States.{Frame, in_for, in_first, in_second, State, program_in}
 use Rattle.aol_cread.specs.declared.building.Phase.{Phase}
 use Rattle.aol_cread.specs.declared.building.Phase.TheVariants.{Start, Headed, Tables, Celled, Between, Inside, Running, Ended}
-use Rattle.aol_cread.proofs.Exprs.{both_true, left_true, right_true, Sized}
-use Rattle.aol_cread.proofs.OneLine.{FitsLine}
-use Rattle.aol_cread.proofs.Shown.{stmt_lines, stmts_lines, tables_lines, vars_lines, step_lines, steps_lines, calls_lines, front_lines, program_lines, place, nested_lines, Inner, StmtFits, ForFits, IfFits, Nested, nested_more, nested_inner, nested_with, nested_add, inner_none}
-use Rattle.aol_cread.proofs.Places.{tables_more, vars_more, two, next_place, place_more, steps_more, calls_more, before_place, place_zero, first_level, level_ends}
-
-use Rattle.aol_cread.proofs.Sound.{Tabled, NoStep, Celled', Made, Known, First, Placed, Whole, base, InTables, InCells, InBetween, InStep, InRun, AtEnd, AtStart, ReachedAt, Reached, held, same_numbers, below, not_zero, is_not, all_more, long_more, nothing_there, in_tables, in_cells, at_start, at_second}
-
-
+use Rattle.aol_cread.proofs.Exprs.{both_true, left_true, right_true}
+use Rattle.aol_cread.proofs.Shown.{stmts_lines, tables_lines, vars_lines, step_lines, steps_lines, calls_lines, front_lines, program_lines, place, nested_lines, Nested, nested_more, nested_add, inner_none}
+use Rattle.aol_cread.proofs.Places.{two, steps_more, calls_more, before_place, place_zero}
+use Rattle.aol_cread.proofs.Sound.{Tabled, NoStep, Celled', Known, First, base, InBetween, InStep, InRun, ReachedAt, Reached, same_numbers}
 use Rattle.aol_cread.proofs.Inside.{for_fits, if_fits, inside_lines, closed_lines, moved, level_closed, ended_by}
-
 
 pub record Lives (ls : List Line) : Type 0 where
   pub program : Program
@@ -79,8 +72,16 @@ with_steps s ls l w m lines tabled cells formed count some few some_w few_w =
     record {
       program = p;
       formed = record {
-        count = long_both s.steps m ∙ count; some_cell = cells.some; cells_fit = cells.few; some_level = some; levels_fit = few; some_worker = some_w; workers_fit = few_w;
-        tables_fit = tabled.many; tables = tabled.formed; steps = all_both (step_formed (length s.tables)) s.steps (replicate m empty) formed (empties_formed (length s.tables) m);
+        count = long_both s.steps m ∙ count;
+        some_cell = cells.some;
+        cells_fit = cells.few;
+        some_level = some;
+        levels_fit = few;
+        some_worker = some_w;
+        workers_fit = few_w;
+        tables_fit = tabled.many;
+        tables = tabled.formed;
+        steps = all_both (step_formed (length s.tables)) s.steps (replicate m empty) formed (empties_formed (length s.tables) m);
       };
       more = f.0 ++ rest;
       lines = ap (λ z. (front_lines s.tables s.cells ++ z) ++ rest) f.1 ∙ (ap (λ z. z ++ rest) (sym (append_assoc (front_lines s.tables s.cells) (steps_lines w 0 0 s.steps) f.0)) ∙ (append_assoc (front_lines s.tables s.cells ++ steps_lines w 0 0 s.steps) f.0 rest ∙ ap (λ z. z ++ (f.0 ++ rest)) (sym lines)));
@@ -187,7 +188,7 @@ step_lives s ls r =
       vars = r.vars;
       nested = c.nested;
       lines = ap (λ z. z ++ c.more) r.lines ∙ (inside_lines (base s) (vars_lines 0 s.vars) (nested_lines s.frames s.here) c.more (step_line s.level s.worker)
-      ∙ ap (λ z. base s ++ (step_line s.level s.worker ∷ (vars_lines 0 s.vars ++ z))) (sym c.lines));
+          ∙ ap (λ z. base s ++ (step_line s.level s.worker ∷ (vars_lines 0 s.vars ++ z))) (sym c.lines));
     } in
     lives_front ls c.more (lives_front (ls ++ c.more) (close_line ∷ []) (after_step u (ls ++ c.more) now refl (s.worker + 1 == s.workers) refl))
 
@@ -213,13 +214,21 @@ run_lives s ls r =
     record {
       program = program_in s;
       formed = record {
-        count = whole.count; some_cell = cells.some; cells_fit = cells.few; some_level = whole.some_level; levels_fit = whole.few_levels; some_worker = whole.some_worker;
-        workers_fit = whole.few_workers; tables_fit = tabled.many; tables = tabled.formed; steps = made.steps;
+        count = whole.count;
+        some_cell = cells.some;
+        cells_fit = cells.few;
+        some_level = whole.some_level;
+        levels_fit = whole.few_levels;
+        some_worker = whole.some_worker;
+        workers_fit = whole.few_workers;
+        tables_fit = tabled.many;
+        tables = tabled.formed;
+        steps = made.steps;
       };
       more = f.0 ++ close_line ∷ [];
       lines = ap (λ n. base s ++ (run_line ∷ (calls_lines s.workers 0 0 n ++ close_line ∷ []))) (sym left)
-        ∙ (ap (λ z. base s ++ (run_line ∷ (z ++ close_line ∷ []))) f.1 ∙ (ap (λ z. base s ++ (run_line ∷ z)) (append_assoc (calls_lines s.workers 0 0 r.calls) f.0 (close_line ∷ []))
-        ∙ (sym (append_assoc (base s) (run_line ∷ calls_lines s.workers 0 0 r.calls) (f.0 ++ close_line ∷ [])) ∙ ap (λ z. z ++ (f.0 ++ close_line ∷ [])) (sym r.lines))));
+          ∙ (ap (λ z. base s ++ (run_line ∷ (z ++ close_line ∷ []))) f.1 ∙ (ap (λ z. base s ++ (run_line ∷ z)) (append_assoc (calls_lines s.workers 0 0 r.calls) f.0 (close_line ∷ []))
+          ∙ (sym (append_assoc (base s) (run_line ∷ calls_lines s.workers 0 0 r.calls) (f.0 ++ close_line ∷ [])) ∙ ap (λ z. z ++ (f.0 ++ close_line ∷ [])) (sym r.lines))));
     }
 
 start_tabled : (s : State) → s.tables ≡ [] → Tabled s
@@ -242,8 +251,16 @@ lives_by Ended s ls r =
     record {
       program = program_in s;
       formed = record {
-        count = whole.count; some_cell = cells.some; cells_fit = cells.few; some_level = whole.some_level; levels_fit = whole.few_levels; some_worker = whole.some_worker;
-        workers_fit = whole.few_workers; tables_fit = tabled.many; tables = tabled.formed; steps = made.steps;
+        count = whole.count;
+        some_cell = cells.some;
+        cells_fit = cells.few;
+        some_level = whole.some_level;
+        levels_fit = whole.few_levels;
+        some_worker = whole.some_worker;
+        workers_fit = whole.few_workers;
+        tables_fit = tabled.many;
+        tables = tabled.formed;
+        steps = made.steps;
       };
       more = [];
       lines = sym r.lines ∙ sym (append-nil ls);

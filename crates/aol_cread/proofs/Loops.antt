@@ -1,8 +1,7 @@
 -- Steps of the reader's loops.
-use Rattle.std.specs.Prelude.{◌≡◌, ℕ, zero, suc, ◌+◌, ◌-◌, ◌<◌, ◌≤◌, List, [], ◌∷◌, ◌++◌, codes, ℤ, Option, Some, None, option_map, option_and_then}
-use Rattle.std.proofs.Common.{subst, sym, refl, ap, arith, ◌∙◌, append_assoc}
+use Rattle.std.specs.Prelude.{◌≡◌, ℕ, zero, suc, ◌+◌, ◌-◌, ◌<◌, ◌≤◌, List, [], ◌∷◌, ◌++◌, codes, ℤ, Some, None, option_map, option_and_then}
+use Rattle.std.proofs.Common.{sym, refl, ap, arith, ◌∙◌, append_assoc}
 use Rattle.std.proofs.lemmas.List.{append-nil}
-use Rattle.aol_csyn.specs.Tree.{Expr}
 use Rattle.aol_cread.specs.Bytes.{Read, found, after, mapped, read_number, read_expr, read_deeper}
 use Rattle.aol_cread.specs.Lines.{read_further, read_numbers}
 

@@ -1,14 +1,14 @@
 -- Lines: what is written is read, and what is read was written.
-use Rattle.std.specs.Prelude.{◌≡◌, ℕ, zero, suc, ◌+◌, ◌^◌, ◌<◌, ◌≤◌, ◌==◌, Bool, true, false, ◌&&◌, List, [], ◌∷◌, ◌++◌, length, codes, decimal, ℤ, Option, Some, None, option_map, option_and_then, if◌then◌else◌}
+use Rattle.std.specs.Prelude.{◌≡◌, ℕ, zero, suc, ◌^◌, ◌<◌, ◌==◌, Bool, true, false, ◌&&◌, List, [], ◌∷◌, ◌++◌, length, codes, decimal, ℤ, Some, None, option_map, option_and_then, if◌then◌else◌}
 use Rattle.std.specs.List.{list_all}
 use Rattle.std.proofs.Common.{subst, sym, refl, ap, arith, ◌∙◌, append_assoc}
 use Rattle.aol_shape.specs.Numbers.{fits_64}
 use Rattle.aol_csyn.specs.Tree.{Expr}
 use Rattle.aol_csyn.specs.Text.{number_text, expr_text, numbers_text, further_text}
 use Rattle.aol_csyn.proofs.Joined.{joined}
-use Rattle.aol_cread.specs.Bytes.{Read, found, expect, choose, after, before, between, mapped, is_clear, read_count, read_number, read_expr}
+use Rattle.aol_cread.specs.Bytes.{Read, found, expect, after, before, between, mapped, is_clear, read_number, read_expr}
 use Rattle.aol_cread.specs.Lines.{Line, head_line, type_line, table_line, v_line, f_line, step_line, var_line, set_line, put_v_line, put_f_line, if_line, else_line, for_line, close_line, run_line, call_line, onto, read_further, read_numbers, read_small, table_from, read_table, ForParts, read_for_parts, for_of, read_for, read_line}
-use Rattle.aol_cread.proofs.Formats.{split, split_map, some_pair, chosen, expect_is, expect_sound, Sound, Complete, sound_after, sound_before, complete_before, complete_after, sound_choose, sound_mapped, complete_mapped, sound_between, complete_between, sound_form}
+use Rattle.aol_cread.proofs.Formats.{split, split_map, some_pair, expect_is, expect_sound, Sound, Complete, sound_after, sound_before, complete_after, sound_choose, sound_between, sound_form}
 use Rattle.aol_cread.proofs.Counts.{sound_count, complete_count}
 use Rattle.aol_cread.proofs.Values.{counts_onto, number_onto, Fits, sound_number, complete_number}
 use Rattle.aol_cread.proofs.Exprs.{expr_onto, Sized, Small, sound_expr, complete_expr, both_true, left_true, right_true}
@@ -64,9 +64,10 @@ sound_further (suc n) t zs r h =
     let is : z ∷ m.value.0 ≡ zs = ap (λ (p : List ℤ × List ℕ). p.0) m.gives in
     let left : m.value.1 ≡ r = ap (λ (p : List ℤ × List ℕ). p.1) m.gives in
     let one = sound_after read_number number_onto Fits (codes ",") sound_number t z s.value.1 s.is in
-    let rest = sound_further n s.value.1 m.value.0 m.value.1 m.is in
-    (one.0 ∙ (ap (λ q. 44 ∷ (number_text z ++ q)) rest.0 ∙ (sym (further_joined z m.value.0 m.value.1) ∙ (ap (λ ys. further_text ys ++ m.value.1) is ∙ ap (λ q. further_text zs ++ q) left))),
-    subst (AreNumbers (suc n)) is (numbers_more n z m.value.0 one.1 rest.1))
+    let rest = sound_further n s.value.1 m.value.0 m.value.1 m.is in (
+      one.0 ∙ (ap (λ q. 44 ∷ (number_text z ++ q)) rest.0 ∙ (sym (further_joined z m.value.0 m.value.1) ∙ (ap (λ ys. further_text ys ++ m.value.1) is ∙ ap (λ q. further_text zs ++ q) left))),
+      subst (AreNumbers (suc n)) is (numbers_more n z m.value.0 one.1 rest.1),
+    )
 
 sound_numbers : (n : ℕ) → Sound (read_numbers n) numbers_onto (λ zs. AreNumbers n zs × (0 < n))
 unfolding read_numbers
@@ -78,9 +79,10 @@ sound_numbers (suc n) t zs r h =
     let is : z ∷ m.value.0 ≡ zs = ap (λ (p : List ℤ × List ℕ). p.0) m.gives in
     let left : m.value.1 ≡ r = ap (λ (p : List ℤ × List ℕ). p.1) m.gives in
     let one = sound_number t z s.value.1 s.is in
-    let rest = sound_further n s.value.1 m.value.0 m.value.1 m.is in
-    (one.0 ∙ (ap (λ q. number_text z ++ q) rest.0 ∙ (sym (append_assoc (number_text z) (further_text m.value.0) m.value.1) ∙ (ap (λ ys. numbers_text ys ++ m.value.1) is ∙ ap (λ q. numbers_text zs ++ q) left))),
-    (subst (AreNumbers (suc n)) is (numbers_more n z m.value.0 one.1 rest.1), omega arith))
+    let rest = sound_further n s.value.1 m.value.0 m.value.1 m.is in (
+      one.0 ∙ (ap (λ q. number_text z ++ q) rest.0 ∙ (sym (append_assoc (number_text z) (further_text m.value.0) m.value.1) ∙ (ap (λ ys. numbers_text ys ++ m.value.1) is ∙ ap (λ q. numbers_text zs ++ q) left))),
+      (subst (AreNumbers (suc n)) is (numbers_more n z m.value.0 one.1 rest.1), omega arith),
+    )
 
 further_clear : (zs : List ℤ) (r : List ℕ) → is_clear r ≡ true → is_clear (further_text zs ++ r) ≡ true
 further_clear [] r h = h
@@ -202,10 +204,12 @@ module _ (room : ℕ) where
       let same = for_by (p.0 == p.1.1.0 && p.0 == p.1.1.1.1.0 && p.0 == p.1.1.1.1.1) p.0 p.1.1.0 p.1.1.1.1.0 p.1.1.1.1.1 p.1.0 p.1.1.1.0 x r q.value.1 refl q.gives in
       let text : List ℕ → ℕ → ℕ → ℕ → List ℕ = λ rest l m n.
       codes "for (a" ++ (decimal p.0 ++ (codes " = " ++ (number_text p.1.0 ++ (codes "; a" ++ (decimal l ++ (codes " < " ++ (number_text p.1.1.1.0 ++ (codes "; a"
-      ++ (decimal m ++ (codes " = a" ++ (decimal n ++ (codes " + 1LL) {\n" ++ rest)))))))))))) in
-      (expect_sound (codes "for (a") t s.value s.is ∙ (ap (λ z. codes "for (a" ++ z) parts.0
-      ∙ (ap (λ l. text q.value.1 l p.1.1.1.1.0 p.1.1.1.1.1) (sym same.0) ∙ (ap (λ m. text q.value.1 p.0 m p.1.1.1.1.1) (sym same.1) ∙ (ap (λ n. text q.value.1 p.0 p.0 n) (sym same.2)
-      ∙ (ap (λ y. onto y q.value.1) same.3 ∙ ap (onto x) same.4))))), subst (FitsLine room) same.3 (fit.0, fit.1.0, fit.1.1.1.0))
+      ++ (decimal m ++ (codes " = a" ++ (decimal n ++ (codes " + 1LL) {\n" ++ rest)))))))))))) in (
+        expect_sound (codes "for (a") t s.value s.is ∙ (ap (λ z. codes "for (a" ++ z) parts.0
+            ∙ (ap (λ l. text q.value.1 l p.1.1.1.1.0 p.1.1.1.1.1) (sym same.0) ∙ (ap (λ m. text q.value.1 p.0 m p.1.1.1.1.1) (sym same.1) ∙ (ap (λ n. text q.value.1 p.0 p.0 n) (sym same.2)
+            ∙ (ap (λ y. onto y q.value.1) same.3 ∙ ap (onto x) same.4))))),
+        subst (FitsLine room) same.3 (fit.0, fit.1.0, fit.1.1.1.0),
+      )
 
   -- ---- a table
 
@@ -222,10 +226,11 @@ module _ (room : ℕ) where
       s.value q.value.0 q.value.1 q.is in
       let rest = sound_before (read_numbers c) numbers_onto (λ zs. AreNumbers c zs × (0 < c)) (codes "};\n") (sound_numbers c) q.value.1 zs m.value.1 m.is in
       let fit = front.1 in let low = fit.0 in let short = fit.1 in let numbers = rest.1.0 in let many = numbers.many in let some = rest.1.1 in
-      let text : List ℕ → ℕ → List ℕ = λ q n. codes "static const i64 T" ++ (decimal k ++ (codes "[" ++ (decimal n ++ (codes "] = {" ++ q)))) in
-      (expect_sound (codes "static const i64 T") t s.value s.is ∙ (ap (λ z. codes "static const i64 T" ++ z) front.0 ∙ (ap (λ q. text q c) rest.0
-      ∙ (ap (λ n. text (numbers_text zs ++ (codes "};\n" ++ m.value.1)) n) (sym many) ∙ (ap (λ y. onto y m.value.1) is ∙ ap (onto x) left)))),
-      subst (FitsLine room) is (record { name = low; many = omega (arith, many, short); some = omega (arith, many, some); fit = numbers.fit }))
+      let text : List ℕ → ℕ → List ℕ = λ q n. codes "static const i64 T" ++ (decimal k ++ (codes "[" ++ (decimal n ++ (codes "] = {" ++ q)))) in (
+        expect_sound (codes "static const i64 T") t s.value s.is ∙ (ap (λ z. codes "static const i64 T" ++ z) front.0 ∙ (ap (λ q. text q c) rest.0
+            ∙ (ap (λ n. text (numbers_text zs ++ (codes "};\n" ++ m.value.1)) n) (sym many) ∙ (ap (λ y. onto y m.value.1) is ∙ ap (onto x) left)))),
+        subst (FitsLine room) is (record { name = low; many = omega (arith, many, short); some = omega (arith, many, some); fit = numbers.fit }),
+      )
 
   -- ---- all lines
 

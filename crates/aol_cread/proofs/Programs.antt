@@ -1,24 +1,19 @@
 -- That the lines of the steps and of `run` lead on.
-use Rattle.std.specs.Prelude.{◌≡◌, ℕ, zero, suc, ◌+◌, ◌*◌, ◌-◌, ◌^◌, ◌<◌, ◌≤◌, max, nat_lt, nat_le, ◌==◌, int_le, Bool, true, false, ◌&&◌, ◌||◌, not, ℤ, List, [], ◌∷◌, ◌++◌, length, if◌then◌else◌, Option, Some, None}
+use Rattle.std.specs.Prelude.{◌≡◌, ℕ, zero, suc, ◌+◌, ◌*◌, ◌^◌, ◌<◌, ◌≤◌, nat_lt, nat_le, ◌==◌, Bool, true, false, ◌&&◌, not, ℤ, List, [], ◌∷◌, ◌++◌, length, if◌then◌else◌, Option, Some}
 use Rattle.std.specs.List.{list_all}
 use Rattle.std.proofs.Common.{subst, sym, refl, ap, arith, ◌∙◌, append_assoc, length-append, inl, inr, ◌⊎◌}
 use Rattle.std.proofs.lemmas.List.{append-nil}
 use Rattle.aol_shape.specs.Numbers.{fits_64}
-use Rattle.aol_csyn.specs.Tree.{Expr, num, var, tab, cell_v, cell_f, bin, Stmt, set_var, put_v, put_f, if_else, for_each, Stmts, no_stmts, stmt_and, stmts, Step, Program}
-use Rattle.aol_csyn.specs.Form.{expr_depth, expr_formed, stmt_depth, stmts_depth, sets, any_sets, stmt_formed, stmts_formed, step_formed, table_formed, IsWellFormed}
-use Rattle.aol_cread.specs.Lines.{Line, head_line, type_line, table_line, v_line, f_line, step_line, var_line, set_line, put_v_line, put_f_line, if_line, else_line, for_line, close_line, run_line, call_line}
-use Rattle.aol_cread.specs.States.{Frame, in_for, in_first, in_second, State, is_held, room_in, program_in}
-use Rattle.aol_cread.specs.Next.{where_true, with_stmt, with_frame, fits_here, advanced, opened, has_room, second_level, after_between, closed, turned, is_empty, after_inside, after_running, after_phase, next, nothing_read}
-use Rattle.aol_cread.specs.declared.building.Phase.{Phase}
+use Rattle.aol_csyn.specs.Tree.{stmts, Step, Program}
+use Rattle.aol_csyn.specs.Form.{stmts_depth, stmts_formed, step_formed, table_formed, IsWellFormed}
+use Rattle.aol_cread.specs.Lines.{Line, head_line, type_line, table_line, v_line, f_line, step_line, var_line, close_line, run_line, call_line}
+use Rattle.aol_cread.specs.States.{State, program_in}
+use Rattle.aol_cread.specs.Next.{where_true, advanced, opened, has_room, second_level, after_between, is_empty, next, nothing_read}
 use Rattle.aol_cread.specs.declared.building.Phase.TheVariants.{Start, Headed, Tables, Celled, Between, Inside, Running, Ended}
-use Rattle.aol_cread.proofs.Exprs.{both_true, left_true, right_true, Sized}
-use Rattle.aol_cread.proofs.OneLine.{FitsLine}
-use Rattle.aol_cread.proofs.Shown.{stmt_lines, stmts_lines, tables_lines, vars_lines, step_lines, steps_lines, calls_lines, front_lines, program_lines, place, StmtFits}
-
-use Rattle.std.proofs.Math.Nat.{mul-le-mul_left}
-use Rattle.aol_cread.proofs.Places.{two, next_place, place_more, before_place, place_zero, level_ends}
+use Rattle.aol_cread.proofs.Exprs.{both_true, left_true, right_true}
+use Rattle.aol_cread.proofs.Shown.{stmts_lines, tables_lines, vars_lines, step_lines, steps_lines, calls_lines, front_lines, program_lines, place}
+use Rattle.aol_cread.proofs.Places.{two, next_place, place_more, before_place, level_ends}
 use Rattle.aol_cread.proofs.Complete.{Goes, goes_on, goes_to, next_in, where_holds, under, below, self, Open, list_of, listed, StmtsFit, stmts_goes}
-
 
 -- ---- places
 
@@ -114,9 +109,12 @@ vars_go (suc n) s o f h few =
     let ou : Open u = record { phase = o.phase; vars = omega (arith, few); tables = o.tables } in
     let t = s.vars == s.vars && is_empty s.frames && is_empty s.here && nat_lt (s.vars + 1) (2 ^ 32) in
     let test : t ≡ true = both_true (s.vars == s.vars && is_empty s.frames && is_empty s.here) (nat_lt (s.vars + 1) (2 ^ 32))
-      (both_true (s.vars == s.vars && is_empty s.frames) (is_empty s.here) (both_true (s.vars == s.vars) (is_empty s.frames) (self s.vars) (ap is_empty f)) (ap is_empty h)) (under (s.vars + 1) (2 ^ 32) (omega (arith, few))) in
-    (u, next_in Inside s (var_line s.vars) u o.phase (where_holds t u test), omega (arith, few),
-    goes_to (vars_lines (s.vars + 1) n) u (record u { vars = s.vars + 1 + n }) (record s { vars = s.vars + suc n }) (ap (λ m. record s { vars = m }) (later s.vars n)) (vars_go n u ou f h (omega (arith, few))))
+    (both_true (s.vars == s.vars && is_empty s.frames) (is_empty s.here) (both_true (s.vars == s.vars) (is_empty s.frames) (self s.vars) (ap is_empty f)) (ap is_empty h)) (under (s.vars + 1) (2 ^ 32) (omega (arith, few))) in (
+      u,
+      next_in Inside s (var_line s.vars) u o.phase (where_holds t u test),
+      omega (arith, few),
+      goes_to (vars_lines (s.vars + 1) n) u (record u { vars = s.vars + 1 + n }) (record s { vars = s.vars + suc n }) (ap (λ m. record s { vars = m }) (later s.vars n)) (vars_go n u ou f h (omega (arith, few))),
+    )
 
 -- ---- a step
 
@@ -193,8 +191,11 @@ advanced_workers false s = refl
 later_stands : (s : State) (w n : ℕ) (st : Step) → s.workers ≡ w → place w 0 0 n ≡ two s.level s.worker → w < suc n → Stands (stepped s st) w (suc n)
 later_stands s w n st is at past =
     let u = record s { phase = Between; steps = s.steps ++ st ∷ []; vars = st.vars; frames = []; here = [] } in
-    inr (past, advanced_workers (s.worker + 1 == s.workers) u ∙ is,
-    place_next w n s.level s.worker at ∙ (ap (λ v. next_place v (two s.level s.worker)) (sym is) ∙ advanced_place (s.worker + 1 == s.workers) u))
+    inr (
+      past,
+      advanced_workers (s.worker + 1 == s.workers) u ∙ is,
+      place_next w n s.level s.worker at ∙ (ap (λ v. next_place v (two s.level s.worker)) (sym is) ∙ advanced_place (s.worker + 1 == s.workers) u),
+    )
 
 early_state : (d : Bool) (u : State) → d ≡ false → (if d then record u { level = u.level + 1; worker = 0 } else record u { worker = u.worker + 1 }) ≡ record u { worker = u.worker + 1 }
 early_state true u h = absurd (cc)
@@ -215,7 +216,8 @@ module _ (w m : ℕ) (some : 0 < w) (few : w < 2 ^ 32) (levels : m < 2 ^ 32) whe
       let here : two l k ≡ two 0 n = sym at ∙ place_first n w h in
       let room = room_is s (omega (arith, low)) (omega (arith, is, h, few)) in
       record {
-        from = s; same = (refl, refl, refl);
+        from = s;
+        same = (refl, refl, refl);
         goes = same_place s l k (ap (λ (p : ℕ × ℕ). p.0) here ∙ sym low) (ap (λ (p : ℕ × ℕ). p.1) here ∙ sym is) room;
         room = room;
         after = λ st. first_stands s w n st none low is h;
@@ -228,7 +230,8 @@ module _ (w m : ℕ) (some : 0 < w) (few : w < 2 ^ 32) (levels : m < 2 ^ 32) whe
       let t = l == 1 && k == 0 && s.workers == 0 && not (s.worker == 0) in
       let test : t ≡ true = both_true (l == 1 && k == 0 && s.workers == 0) (not (s.worker == 0)) (both_true (l == 1 && k == 0) (s.workers == 0) (both_true (l == 1) (k == 0) (test_same l 1 one) (test_same k 0 zero_worker)) (test_same s.workers 0 none)) (grind (arith, is, h, some)) in
       record {
-        from = second_level s; same = (refl, refl, refl);
+        from = second_level s;
+        same = (refl, refl, refl);
         goes = by_second (l == s.level && k == s.worker) (where_true (has_room s) (opened s)) (where_true t (opened (second_level s))) (differ l k s.level s.worker one low) ∙ where_holds t (opened (second_level s)) test;
         room = refl;
         after = λ st. later_stands (second_level s) w n st (omega (arith, is, h)) (at ∙ here) (omega (arith, h));
@@ -240,7 +243,8 @@ module _ (w m : ℕ) (some : 0 < w) (few : w < 2 ^ 32) (levels : m < 2 ^ 32) whe
       let low = place_level w n s.level s.worker m some at total in let small = place_worker w n s.level s.worker some at in
       let room = room_is s (omega (arith, low, levels)) (omega (arith, small, few)) in
       record {
-        from = s; same = (refl, refl, refl);
+        from = s;
+        same = (refl, refl, refl);
         goes = same_place s l k (ap (λ (p : ℕ × ℕ). p.0) here) (ap (λ (p : ℕ × ℕ). p.1) here) room;
         room = room;
         after = λ st. later_stands s w n st is at (omega (arith, h));
@@ -333,8 +337,8 @@ module _ (w m : ℕ) (some : 0 < w) (few : w < 2 ^ 32) (levels : m < 2 ^ 32) whe
       let lev = r.whole in let lv = r.level in let wk = r.worker in let ws = r.workers in
       let t = l == s.level && k == s.worker && nat_lt s.level s.levels && has_room s in
       let test : t ≡ true = both_true (l == s.level && k == s.worker && nat_lt s.level s.levels) (has_room s)
-        (both_true (l == s.level && k == s.worker) (nat_lt s.level s.levels) (both_true (l == s.level) (k == s.worker) (test_same l s.level (sym lv)) (test_same k s.worker (sym wk))) (under s.level s.levels (omega (arith, lev, lv, below_end))))
-        (room_is s (omega (arith, lv, below_end, levels)) (omega (arith, wk, small, few))) in
+      (both_true (l == s.level && k == s.worker) (nat_lt s.level s.levels) (both_true (l == s.level) (k == s.worker) (test_same l s.level (sym lv)) (test_same k s.worker (sym wk))) (under s.level s.levels (omega (arith, lev, lv, below_end))))
+      (room_is s (omega (arith, lv, below_end, levels)) (omega (arith, wk, small, few))) in
       let same : (s.worker + 1 == s.workers) ≡ d = ap (λ x. x + 1 == s.workers) wk ∙ (ap (λ x. k + 1 == x) ws ∙ is) in
       let step : next s (call_line l k) ≡ Some (if d then record s { level = s.level + 1; worker = 0 } else record s { worker = s.worker + 1 }) =
       next_in Running s (call_line l k) (advanced s) r.phase (where_holds t (advanced s) test) ∙ ap (λ (x : Bool). Some (if x then record s { level = s.level + 1; worker = 0 } else record s { worker = s.worker + 1 })) same in
@@ -364,11 +368,13 @@ tables_go (x ∷ ts) s ph formed few =
     let long : length (s.tables ++ x ∷ []) ≡ length s.tables + 1 = long_one s.tables x in
     let f = left_true (table_formed x) (list_all table_formed ts) formed in
     let ab = left_true (not (length x == 0) && nat_lt (length x) (2 ^ 32)) (list_all fits_64 x) f in
-    let short = below (length x) (2 ^ 32) (right_true (not (length x == 0)) (nat_lt (length x) (2 ^ 32)) ab) in
-    (u, next_in Tables s (table_line (length s.tables) x) u ph (where_holds t u test),
-    record { name = omega (arith, few); many = short; some = not_none (length x) (left_true (not (length x == 0)) (nat_lt (length x) (2 ^ 32)) ab); fit = right_true (not (length x == 0) && nat_lt (length x) (2 ^ 32)) (list_all fits_64 x) f },
-    goes_to (tables_lines (length s.tables + 1) ts) u (record u { tables = (s.tables ++ x ∷ []) ++ ts }) (record s { tables = s.tables ++ (x ∷ ts) }) (ap (λ xs. record s { tables = xs }) (append_assoc s.tables (x ∷ []) ts))
-    (subst (λ n. Goes u (tables_lines n ts) (record u { tables = (s.tables ++ x ∷ []) ++ ts })) long (tables_go ts u ph (right_true (table_formed x) (list_all table_formed ts) formed) (omega (arith, long, few)))))
+    let short = below (length x) (2 ^ 32) (right_true (not (length x == 0)) (nat_lt (length x) (2 ^ 32)) ab) in (
+      u,
+      next_in Tables s (table_line (length s.tables) x) u ph (where_holds t u test),
+      record { name = omega (arith, few); many = short; some = not_none (length x) (left_true (not (length x == 0)) (nat_lt (length x) (2 ^ 32)) ab); fit = right_true (not (length x == 0) && nat_lt (length x) (2 ^ 32)) (list_all fits_64 x) f },
+      goes_to (tables_lines (length s.tables + 1) ts) u (record u { tables = (s.tables ++ x ∷ []) ++ ts }) (record s { tables = s.tables ++ (x ∷ ts) }) (ap (λ xs. record s { tables = xs }) (append_assoc s.tables (x ∷ []) ts))
+          (subst (λ n. Goes u (tables_lines n ts) (record u { tables = (s.tables ++ x ∷ []) ++ ts })) long (tables_go ts u ph (right_true (table_formed x) (list_all table_formed ts) formed) (omega (arith, long, few)))),
+    )
 
 some_is : (n : ℕ) → 0 < n → not (n == 0) ≡ true
 some_is n h = grind (arith, h)
@@ -423,9 +429,12 @@ module _ (p : Program) (wf : IsWellFormed p) where
       let few = wf.tables_fit in let some = wf.some_cell in let fit = wf.cells_fit in
       let a : Goes nothing_read (head_line ∷ type_line ∷ tables_lines 0 p.tables) s3 =
       (s1, next_in Start nothing_read head_line s1 refl refl, tt, (s2, next_in Headed s1 type_line s2 refl refl, tt, tables_go p.tables s2 refl wf.tables (omega (arith, few)))) in
-      let b : Goes s3 (v_line p.cells ∷ f_line p.cells ∷ []) s5 =
-      (s4, next_in Tables s3 (v_line p.cells) s4 refl (where_holds (not (p.cells == 0)) s4 (some_is p.cells some)), fit,
-      (s5, next_in Celled s4 (f_line p.cells) s5 refl (where_holds (p.cells == p.cells) s5 (self p.cells)), fit, refl)) in
+      let b : Goes s3 (v_line p.cells ∷ f_line p.cells ∷ []) s5 = (
+        s4,
+        next_in Tables s3 (v_line p.cells) s4 refl (where_holds (not (p.cells == 0)) s4 (some_is p.cells some)),
+        fit,
+        (s5, next_in Celled s4 (f_line p.cells) s5 refl (where_holds (p.cells == p.cells) s5 (self p.cells)), fit, refl),
+      ) in
       goes_on (head_line ∷ type_line ∷ tables_lines 0 p.tables) (v_line p.cells ∷ f_line p.cells ∷ []) nothing_read s3 s5 a b
 
   steps_arrive : Arrived p.workers p.levels wf.some_worker wf.workers_fit wf.levels_fit s5 (steps_lines p.workers 0 0 p.steps) p.tables p.cells p.steps (length p.steps)
@@ -479,7 +488,7 @@ module _ (p : Program) (wf : IsWellFormed p) where
       record {
         last = s8;
         goes = goes_on (front_lines p.tables p.cells ++ steps_lines p.workers 0 0 p.steps) (run_line ∷ (calls_lines p.workers 0 0 (length p.steps) ++ close_line ∷ [])) nothing_read a.last s8
-          (goes_on (front_lines p.tables p.cells) (steps_lines p.workers 0 0 p.steps) nothing_read s5 a.last front_goes a.goes) rest;
+            (goes_on (front_lines p.tables p.cells) (steps_lines p.workers 0 0 p.steps) nothing_read s5 a.last front_goes a.goes) rest;
         phase = refl;
         program = same_program (program_in s8) p (r.same.0 ∙ b.tables) (r.same.1 ∙ b.cells) r.runs.2 r.runs.1 (r.same.2 ∙ b.steps);
       }

@@ -1,20 +1,19 @@
 -- Which lines lead to a state, and that the next line leads on.
-use Rattle.std.specs.Prelude.{◌≡◌, ℕ, zero, suc, ◌+◌, ◌*◌, ◌-◌, ◌^◌, ◌<◌, ◌≤◌, max, nat_lt, nat_le, ◌==◌, int_le, Bool, true, false, ◌&&◌, ◌||◌, not, ℤ, List, [], ◌∷◌, ◌++◌, length, if◌then◌else◌, Option, Some, None}
+use Rattle.std.specs.Prelude.{◌≡◌, ℕ, suc, ◌+◌, ◌*◌, ◌^◌, ◌<◌, nat_lt, ◌==◌, Bool, true, false, ◌&&◌, not, ℤ, List, [], ◌∷◌, ◌++◌, length, Some}
 use Rattle.std.specs.List.{list_all}
-use Rattle.std.proofs.Common.{subst, sym, refl, ap, arith, ◌∙◌, append_assoc, length-append, inl, inr, ◌⊎◌}
+use Rattle.std.proofs.Common.{subst, sym, refl, ap, arith, ◌∙◌, append_assoc, length-append, inl, ◌⊎◌}
 use Rattle.std.proofs.lemmas.List.{append-nil}
 use Rattle.aol_shape.specs.Numbers.{fits_64}
-use Rattle.aol_csyn.specs.Tree.{Expr, Stmt, set_var, put_v, put_f, if_else, for_each, Stmts, no_stmts, stmt_and, stmts, Step, Program}
-use Rattle.aol_csyn.specs.Form.{expr_depth, expr_formed, stmt_depth, stmts_depth, sets, any_sets, stmt_formed, stmts_formed, step_formed, table_formed, IsWellFormed}
-use Rattle.aol_cread.specs.Lines.{Line, head_line, type_line, table_line, v_line, f_line, step_line, var_line, set_line, put_v_line, put_f_line, if_line, else_line, for_line, close_line, run_line, call_line}
-use Rattle.aol_cread.specs.States.{Frame, in_for, in_first, in_second, State, is_held, room_in, program_in}
-use Rattle.aol_cread.specs.Next.{where_true, with_stmt, with_frame, fits_here, advanced, opened, has_room, second_level, after_between, closed, turned, is_empty, after_inside, after_running, after_phase, next, nothing_read}
+use Rattle.aol_csyn.specs.Form.{step_formed, table_formed}
+use Rattle.aol_cread.specs.Lines.{Line, head_line, type_line, table_line, v_line, f_line, step_line, run_line}
+use Rattle.aol_cread.specs.States.{State, room_in, program_in}
+use Rattle.aol_cread.specs.Next.{where_true, has_room, is_empty, after_phase}
 use Rattle.aol_cread.specs.declared.building.Phase.{Phase}
 use Rattle.aol_cread.specs.declared.building.Phase.TheVariants.{Start, Headed, Tables, Celled, Between, Inside, Running, Ended}
-use Rattle.aol_cread.proofs.Exprs.{both_true, left_true, right_true, Sized}
+use Rattle.aol_cread.proofs.Exprs.{both_true, left_true, right_true}
 use Rattle.aol_cread.proofs.OneLine.{FitsLine}
-use Rattle.aol_cread.proofs.Shown.{stmt_lines, stmts_lines, tables_lines, vars_lines, step_lines, steps_lines, calls_lines, front_lines, program_lines, place, nested_lines, Inner, StmtFits, ForFits, IfFits, Nested, nested_more, nested_inner, nested_with, nested_add, inner_none}
-use Rattle.aol_cread.proofs.Places.{tables_more, vars_more, two, next_place, place_more, steps_more, calls_more, before_place, place_zero, first_level, level_ends}
+use Rattle.aol_cread.proofs.Shown.{tables_lines, vars_lines, steps_lines, calls_lines, front_lines, program_lines, place, nested_lines, Nested}
+use Rattle.aol_cread.proofs.Places.{tables_more, two}
 
 -- ---- what is known in each phase
 
@@ -202,8 +201,8 @@ in_cells s t (f_line cells) ls h r =
         higher = λ h. absurd (omega (arith, h, worker));
       };
       lines = ap (λ z. z ++ f_line cells ∷ []) r.lines ∙ (append_assoc (head_line ∷ type_line ∷ tables_lines 0 s.tables) (v_line s.cells ∷ []) (f_line cells ∷ [])
-      ∙ (ap (λ c. (head_line ∷ type_line ∷ tables_lines 0 s.tables) ++ v_line s.cells ∷ f_line c ∷ []) one
-      ∙ (sym (append-nil (front_lines s.tables s.cells)) ∙ ap (λ xs. front_lines s.tables s.cells ++ steps_lines s.workers 0 0 xs) (sym steps))));
+          ∙ (ap (λ c. (head_line ∷ type_line ∷ tables_lines 0 s.tables) ++ v_line s.cells ∷ f_line c ∷ []) one
+          ∙ (sym (append-nil (front_lines s.tables s.cells)) ∙ ap (λ xs. front_lines s.tables s.cells ++ steps_lines s.workers 0 0 xs) (sym steps))));
     } in
     subst (λ x. Reached x (ls ++ f_line cells ∷ [])) test.1 here
 in_cells s t l ls h r = absurd (cc)

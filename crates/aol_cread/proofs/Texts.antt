@@ -1,6 +1,6 @@
 -- The text of a program, line by line.
 use Rattle.std.specs.Prelude.{◌≡◌, ℕ, zero, suc, ◌+◌, ◌==◌, Bool, true, false, ℤ, List, [], ◌∷◌, ◌++◌, length, codes, decimal, if◌then◌else◌}
-use Rattle.std.proofs.Common.{subst, sym, refl, ap, arith, ◌∙◌, append_assoc}
+use Rattle.std.proofs.Common.{sym, refl, ap, ◌∙◌, append_assoc}
 use Rattle.std.proofs.lemmas.List.{append-nil}
 use Rattle.aol_csyn.specs.Tree.{Expr, Stmt, set_var, put_v, put_f, if_else, for_each, Stmts, no_stmts, stmt_and, Step, Program}
 use Rattle.aol_csyn.specs.Text.{number_text, expr_text, indexed, assigned, for_line, stmt_text, stmts_text, table_text, tables_text, numbers_text, arrays_text, step_name, var_line, vars_text, step_text, steps_text, call_text, calls_text, program_text}
@@ -114,9 +114,9 @@ program_texts p =
     sym (append-nil (program_text p))
     ∙ (joined (codes "/* AOL-C/1 */\ntypedef long long i64;\n") (tables_text 0 p.tables ∷ arrays_text p.cells ∷ steps_text p.workers 0 0 p.steps ∷ codes "void run(void) {\n" ∷ calls_text p.workers 0 0 p.steps ∷ codes "}\n" ∷ []) []
     ∙ (ap (λ z. codes "/* AOL-C/1 */\ntypedef long long i64;\n" ++ z)
-      (ap (λ z. tables_text 0 p.tables ++ (arrays_text p.cells ++ (steps_text p.workers 0 0 p.steps ++ z))) end
-      ∙ (ap (λ z. tables_text 0 p.tables ++ (arrays_text p.cells ++ z)) (steps_texts p.workers p.steps (texts last []) 0 0)
-      ∙ (ap (λ z. tables_text 0 p.tables ++ z) (arrays_texts p.cells (texts (steps_lines p.workers 0 0 p.steps) (texts last [])))
-      ∙ tables_texts p.tables 0 (onto (lines.v_line p.cells) (onto (lines.f_line p.cells) (texts (steps_lines p.workers 0 0 p.steps) (texts last [])))))))
+    (ap (λ z. tables_text 0 p.tables ++ (arrays_text p.cells ++ (steps_text p.workers 0 0 p.steps ++ z))) end
+    ∙ (ap (λ z. tables_text 0 p.tables ++ (arrays_text p.cells ++ z)) (steps_texts p.workers p.steps (texts last []) 0 0)
+    ∙ (ap (λ z. tables_text 0 p.tables ++ z) (arrays_texts p.cells (texts (steps_lines p.workers 0 0 p.steps) (texts last [])))
+    ∙ tables_texts p.tables 0 (onto (lines.v_line p.cells) (onto (lines.f_line p.cells) (texts (steps_lines p.workers 0 0 p.steps) (texts last [])))))))
     ∙ (sym (texts_both (lines.head_line ∷ lines.type_line ∷ tables_lines 0 p.tables) (lines.v_line p.cells ∷ lines.f_line p.cells ∷ []) (texts (steps_lines p.workers 0 0 p.steps) (texts last [])))
     ∙ (sym (texts_both (front_lines p.tables p.cells) (steps_lines p.workers 0 0 p.steps) (texts last [])) ∙ sym (texts_both (front_lines p.tables p.cells ++ steps_lines p.workers 0 0 p.steps) last [])))))

@@ -1,17 +1,14 @@
 -- Numbers, operators and expressions: what is written is read, and what is read was written.
-use Rattle.std.specs.Prelude.{◌≡◌, ℕ, zero, suc, ◌+◌, ◌*◌, ◌-◌, ◌^◌, ◌<◌, ◌≤◌, max, nat_lt, nat_le, ◌==◌, Bool, true, false, ◌&&◌, List, [], ◌∷◌, ◌++◌, length, codes, decimal, ℤ, pos, negsuc, Option, Some, None, option_map, option_and_then, if◌then◌else◌}
-use Rattle.std.proofs.Common.{subst, sym, refl, ap, arith, ◌∙◌, append_assoc, inl, inr, ◌⊎◌}
+use Rattle.std.specs.Prelude.{◌≡◌, ℕ, ◌+◌, ◌-◌, ◌^◌, ◌<◌, ◌≤◌, ◌==◌, Bool, true, false, List, [], ◌∷◌, ◌++◌, length, codes, decimal, ℤ, pos, negsuc, Some, None, option_map, option_and_then, if◌then◌else◌}
+use Rattle.std.proofs.Common.{subst, sym, refl, ap, arith, ◌∙◌, inl, inr, ◌⊎◌}
 use Rattle.std.proofs.lemmas.Fmt.{decimal_nonempty}
 use Rattle.aol_shape.specs.Numbers.{fits_64}
 use Rattle.aol_csyn.specs.declared.program.COp.{COp}
 use Rattle.aol_csyn.specs.declared.program.COp.TheVariants.{Add, Sub, Mul, Div, Rem, Lt, Le, Eq}
-use Rattle.aol_csyn.specs.Tree.{Expr, num, var, tab, cell_v, cell_f, bin}
-use Rattle.aol_csyn.specs.Form.{expr_depth, expr_formed}
-use Rattle.aol_csyn.specs.Text.{number_text, op_text, expr_text}
-use Rattle.aol_csyn.proofs.Numbers.{pos_text, neg_text, least_text, bounds, bounds_below, decimal_digits, AreDigits, first_digit}
-use Rattle.aol_csyn.proofs.Expressions.{text_tab, text_cell_v, text_cell_f, text_bin}
-use Rattle.aol_cread.specs.Bytes.{Read, found, expect, choose, after, before, between, mapped, is_digit, is_clear, read_count, negative_from, read_negative, read_positive, read_number, read_op, read_bin, read_expr}
-use Rattle.aol_cread.proofs.Formats.{Split, split, SplitMap, split_map, some_pair, chosen, expect_is, expect_sound, Sound, Complete, sound_after, sound_before, complete_before, complete_after, sound_choose, sound_mapped, complete_mapped, sound_between, complete_between}
+use Rattle.aol_csyn.specs.Text.{number_text, op_text}
+use Rattle.aol_csyn.proofs.Numbers.{pos_text, neg_text, least_text, bounds, bounds_below, decimal_digits, AreDigits}
+use Rattle.aol_cread.specs.Bytes.{Read, found, expect, choose, after, before, is_digit, is_clear, read_count, negative_from, read_negative, read_positive, read_number, read_op}
+use Rattle.aol_cread.proofs.Formats.{split, split_map, some_pair, chosen, expect_sound, Sound, Complete, sound_before, complete_before, sound_choose, sound_mapped, complete_mapped}
 use Rattle.aol_cread.proofs.Counts.{sound_count, complete_count}
 
 abbrev pub counts_onto : ℕ → List ℕ → List ℕ
@@ -59,7 +56,7 @@ plain_by false n s z r t h is text e =
     let low : n - 1 < 2 ^ 63 = omega (arith, h) in
     record {
       same = ap (λ q. 40 ∷ 45 ∷ (decimal n ++ q)) text ∙ (ap (λ k. 40 ∷ 45 ∷ (decimal k ++ (76 ∷ 76 ∷ 41 ∷ s))) (sym some)
-      ∙ (sym (neg_text (n - 1) s apart) ∙ (ap (λ y. number_text y ++ s) both.0 ∙ ap (λ q. number_text z ++ q) both.1)));
+          ∙ (sym (neg_text (n - 1) s apart) ∙ (ap (λ y. number_text y ++ s) both.0 ∙ ap (λ q. number_text z ++ q) both.1)));
       fits = subst Fits both.0 (fits_neg (n - 1) low);
     }
 
@@ -74,7 +71,7 @@ least_by true n z r t h is e =
     let left : m.value ≡ r = ap (λ (p : ℤ × List ℕ). p.1) m.gives in
     record {
       same = ap (λ q. 40 ∷ 45 ∷ (decimal n ++ q)) (expect_sound (codes "LL - 1LL)") t m.value m.is)
-      ∙ (sym (is_least n m.value (grind (arith, is))) ∙ (ap (λ y. number_text y ++ m.value) one ∙ ap (λ q. number_text z ++ q) left));
+          ∙ (sym (is_least n m.value (grind (arith, is))) ∙ (ap (λ y. number_text y ++ m.value) one ∙ ap (λ q. number_text z ++ q) left));
       fits = subst Fits one (fits_neg n h);
     }
 

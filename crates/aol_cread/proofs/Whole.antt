@@ -1,13 +1,13 @@
 -- Reading a whole text.
-use Rattle.std.specs.Prelude.{◌≡◌, ℕ, zero, suc, ◌+◌, ◌-◌, ◌^◌, ◌<◌, ◌≤◌, ◌==◌, Bool, true, false, ◌&&◌, not, ℤ, pos, negsuc, List, [], ◌∷◌, ◌++◌, length, codes, decimal, nat_le, nat_lt, if◌then◌else◌, Option, Some, None, option_map, option_and_then}
+use Rattle.std.specs.Prelude.{◌≡◌, ℕ, suc, ◌+◌, ◌-◌, ◌^◌, ◌<◌, ◌≤◌, ◌==◌, Bool, true, false, not, ℤ, pos, negsuc, List, [], ◌∷◌, ◌++◌, length, codes, decimal, nat_lt, if◌then◌else◌, Some, None, option_map, option_and_then}
 use Rattle.std.specs.List.{list_all}
-use Rattle.std.proofs.Common.{subst, sym, refl, ap, arith, ◌∙◌, append_assoc, length-append, inl, inr, ◌⊎◌}
+use Rattle.std.proofs.Common.{subst, sym, refl, ap, arith, ◌∙◌, append_assoc, length-append}
 use Rattle.std.proofs.lemmas.List.{append-nil}
 use Rattle.aol_csyn.specs.declared.program.COp.{COp}
 use Rattle.aol_csyn.specs.declared.program.COp.TheVariants.{Add, Sub, Mul, Div, Rem, Lt, Le, Eq}
 use Rattle.aol_csyn.specs.Tree.{Expr, num, var, tab, cell_v, cell_f, bin, Program}
-use Rattle.aol_csyn.specs.Form.{IsWellFormed, expr_formed}
-use Rattle.aol_csyn.specs.Text.{number_text, op_text, expr_text, indexed, numbers_text, further_text, program_text}
+use Rattle.aol_csyn.specs.Form.{expr_formed}
+use Rattle.aol_csyn.specs.Text.{number_text, op_text, expr_text, indexed, numbers_text, further_text}
 use Rattle.aol_csyn.proofs.Numbers.{AreDigits, is_digit, decimal_digits, bounds, bounds_below}
 use Rattle.aol_cread.specs.Bytes.{found}
 use Rattle.aol_cread.specs.Lines.{Line, head_line, type_line, table_line, v_line, f_line, step_line, var_line, set_line, put_v_line, put_f_line, if_line, else_line, for_line, close_line, run_line, call_line, onto, read_line}
@@ -15,18 +15,17 @@ use Rattle.aol_cread.specs.States.{State, room_in, program_in}
 use Rattle.aol_cread.specs.Next.{next, nothing_read}
 use Rattle.aol_cread.specs.Step.{taken, Takes}
 use Rattle.aol_cread.specs.Wrong.{IsTextOf, BeginsProgram, IsLine, AreLines, in_front, IsFirstWrongLine}
-use Rattle.aol_cread.specs.declared.building.Phase.{Phase}
 use Rattle.aol_cread.specs.declared.building.Phase.TheVariants.{Ended}
 use Rattle.aol_shape.specs.Numbers.{fits_64}
-use Rattle.aol_cread.proofs.Exprs.{Sized, Small, left_true, right_true, both_true}
+use Rattle.aol_cread.proofs.Exprs.{left_true, right_true, both_true}
 use Rattle.aol_cread.proofs.Formats.{split, split_map, some_pair}
 use Rattle.aol_cread.proofs.OneLine.{FitsLine, sound_line, complete_line}
 use Rattle.aol_cread.proofs.Shown.{program_lines}
 use Rattle.aol_cread.proofs.Complete.{Goes, goes_on}
 use Rattle.aol_cread.proofs.Sound.{Reached}
 use Rattle.aol_cread.proofs.Inside.{reached_next, reached_none, ended}
-use Rattle.aol_cread.proofs.Programs.{Ends, program_ends}
-use Rattle.aol_cread.proofs.Live.{Lives, lives}
+use Rattle.aol_cread.proofs.Programs.{program_ends}
+use Rattle.aol_cread.proofs.Live.{lives}
 use Rattle.aol_cread.proofs.Texts.{texts, texts_both, program_texts}
 
 -- ---- lines have one line feed
@@ -233,14 +232,16 @@ read_more text s u left r line b h =
     let e = line_ends (room_in s) l s1.1 in
     let cut : left ≡ onto l r = s1.0 ∙ ap (onto l) rest in
     let long : length left ≡ length e.body + suc (length r) = ap (λ (xs : List ℕ). length xs) (cut ∙ e.same r) ∙ length-append e.body (10 ∷ r) in
-    let more = one_long b.lines l in let counted = b.counted in let short = b.short in
-    (record {
-      lines = b.lines ++ l ∷ [];
-      goes = goes_on b.lines (l ∷ []) nothing_read s u b.goes (u, m.is ∙ ap (λ (x : State). Some x) state, s1.1, refl);
-      cut = b.cut ∙ (ap (texts b.lines) cut ∙ sym (texts_both b.lines (l ∷ []) r));
-      counted = omega (arith, more, counted);
-      short = omega (arith, more, short, long);
-    }, omega (arith, long))
+    let more = one_long b.lines l in let counted = b.counted in let short = b.short in (
+      record {
+        lines = b.lines ++ l ∷ [];
+        goes = goes_on b.lines (l ∷ []) nothing_read s u b.goes (u, m.is ∙ ap (λ (x : State). Some x) state, s1.1, refl);
+        cut = b.cut ∙ (ap (texts b.lines) cut ∙ sym (texts_both b.lines (l ∷ []) r));
+        counted = omega (arith, more, counted);
+        short = omega (arith, more, short, long);
+      },
+      omega (arith, long),
+    )
 
 -- ---- the end
 

@@ -1,9 +1,8 @@
 -- How numbers and expressions are read from the front of a text.
-use Rattle.std.specs.Prelude.{◌≡◌, ℕ, zero, suc, ◌+◌, ◌*◌, ◌-◌, ◌^◌, nat_lt, nat_le, ◌==◌, Bool, true, false, ◌&&◌, ℤ, pos, negsuc, List, [], ◌∷◌, ◌++◌, codes, Option, Some, None, option_map, option_and_then, if◌then◌else◌}
+use Rattle.std.specs.Prelude.{◌≡◌, ℕ, zero, suc, ◌+◌, ◌*◌, ◌-◌, ◌^◌, nat_lt, nat_le, ◌==◌, Bool, true, false, ◌&&◌, ℤ, pos, negsuc, List, [], ◌∷◌, codes, Option, Some, None, option_map, option_and_then, if◌then◌else◌}
 use Rattle.aol_csyn.specs.declared.program.COp.{COp}
 use Rattle.aol_csyn.specs.declared.program.COp.TheVariants.{Add, Sub, Mul, Div, Rem, Lt, Le, Eq}
 use Rattle.aol_csyn.specs.Tree.{Expr, num, var, tab, cell_v, cell_f, bin}
-use Rattle.aol_csyn.specs.Text.{op_text}
 
 -- what is read from the front, with the rest
 abbrev pub Read : Type 0 → Type 0

@@ -1,6 +1,5 @@
 -- The lines of a program.
-use Rattle.std.specs.Prelude.{◌≡◌, ℕ, zero, suc, ◌+◌, ◌^◌, nat_lt, nat_le, ◌==◌, Bool, true, false, ◌&&◌, ℤ, pos, List, [], ◌∷◌, ◌++◌, length, codes, decimal, Option, Some, None, option_map, option_and_then, if◌then◌else◌}
-use Rattle.aol_shape.specs.Numbers.{fits_64}
+use Rattle.std.specs.Prelude.{ℕ, zero, suc, ◌^◌, ◌==◌, ◌&&◌, ℤ, List, [], ◌∷◌, ◌++◌, length, codes, decimal, None, option_and_then, if◌then◌else◌}
 use Rattle.aol_csyn.specs.Tree.{Expr}
 use Rattle.aol_csyn.specs.Text.{number_text, expr_text, numbers_text}
 use Rattle.aol_cread.specs.Bytes.{Read, found, expect, choose, after, before, between, mapped, read_count, read_number, read_expr}

@@ -1,6 +1,6 @@
 -- What is known of a program after some of its lines.
-use Rattle.std.specs.Prelude.{◌≡◌, ℕ, zero, suc, ◌+◌, ◌*◌, ◌-◌, ◌^◌, nat_lt, nat_le, ◌==◌, int_le, Bool, true, false, ◌&&◌, ◌||◌, not, ℤ, pos, List, [], ◌∷◌, ◌++◌, length, map, Option, Some, None, option_map, option_and_then, if◌then◌else◌}
-use Rattle.aol_csyn.specs.Tree.{Expr, Stmt, if_else, for_each, stmts, Step, Program}
+use Rattle.std.specs.Prelude.{ℕ, ◌-◌, ◌==◌, Bool, false, ◌||◌, ℤ, List, [], ◌∷◌, length}
+use Rattle.aol_csyn.specs.Tree.{Expr, Stmt, Step, Program}
 use Rattle.aol_cread.specs.declared.building.Phase.{Phase}
 
 -- A block that is open: a `for`, the first or the second body of an `if`; with the statements before it, and the first body where the second is open.

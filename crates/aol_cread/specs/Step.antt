@@ -1,6 +1,6 @@
 -- One line read and taken.
 use Rattle.std.specs.Prelude.{◌≡◌, ℕ, Bool, true, false, List, Option, Some, None, option_and_then, option_map}
-use Rattle.aol_cread.specs.Lines.{Line, read_line}
+use Rattle.aol_cread.specs.Lines.{read_line}
 use Rattle.aol_cread.specs.States.{State, room_in}
 use Rattle.aol_cread.specs.Next.{next}
 

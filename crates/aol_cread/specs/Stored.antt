@@ -1,5 +1,5 @@
 -- What stored lines and states stand for.
-use Rattle.std.specs.Prelude.{◌≡◌, ℕ, ℤ, List, map, reverse, Option, option_map}
+use Rattle.std.specs.Prelude.{List, map, reverse}
 use Rattle.aol_csyn.specs.Stored.{expr_of, stmt_of, step_of, tables_of}
 use Rattle.aol_csyn.specs.declared.program.CStmt.{CStmt}
 use Rattle.aol_csyn.specs.Tree.{Stmt}
@@ -47,6 +47,15 @@ frames_of blocks = map frame_of (reverse blocks)
 -- a state
 abbrev pub state_of : Building → State
 state_of b = record {
-  phase = b.phase; tables = tables_of b.tables; cells = b.cells; steps = map step_of b.steps; level = b.level; worker = b.worker; workers = b.workers; levels = b.levels;
-  vars = b.vars; frames = frames_of b.blocks; here = trees_of b.here;
+  phase = b.phase;
+  tables = tables_of b.tables;
+  cells = b.cells;
+  steps = map step_of b.steps;
+  level = b.level;
+  worker = b.worker;
+  workers = b.workers;
+  levels = b.levels;
+  vars = b.vars;
+  frames = frames_of b.blocks;
+  here = trees_of b.here;
 }

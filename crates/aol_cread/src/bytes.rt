@@ -107,7 +107,11 @@ impl<'t> Reader<'t> {
         ensures { Yields (read_positive self.old.left.now) result self.new.left.now }
     {
         let n = self.count(LIMIT)?;
-        if self.eat(b"LL") { Some(n as i64) } else { None }
+        if self.eat(b"LL") {
+            Some(n as i64)
+        } else {
+            None
+        }
     }
 
     /// A negative number, from the bytes after its size on.
@@ -137,7 +141,11 @@ impl<'t> Reader<'t> {
     pub(crate) fn number(&mut self) -> Option<i64>
         ensures { Yields (read_number self.old.left.now) result self.new.left.now }
     {
-        if self.eat(b"(-") { self.negative() } else { self.positive() }
+        if self.eat(b"(-") {
+            self.negative()
+        } else {
+            self.positive()
+        }
     }
 
     /// An operator between two blanks.
@@ -166,6 +174,10 @@ impl<'t> Reader<'t> {
         if self.eat(b" <= ") {
             return Some(COp::Le);
         }
-        if self.eat(b" == ") { Some(COp::Eq) } else { None }
+        if self.eat(b" == ") {
+            Some(COp::Eq)
+        } else {
+            None
+        }
     }
 }

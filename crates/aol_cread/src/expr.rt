@@ -78,7 +78,11 @@ impl<'t> Reader<'t> {
         let Some(index) = self.expr(alloc, room)? else {
             return Ok(None);
         };
-        if self.eat(b"]") { Ok(Some(index)) } else { Ok(None) }
+        if self.eat(b"]") {
+            Ok(Some(index))
+        } else {
+            Ok(None)
+        }
     }
 
     /// An entry of a table, after `T`.

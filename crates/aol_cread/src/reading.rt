@@ -35,12 +35,7 @@ impl<'t> Reader<'t> {
     }
 
     /// An expression, and then these bytes.
-    fn expr_then(
-        &mut self,
-        alloc: Global,
-        room: u32,
-        end: &[u8],
-    ) -> Result<Option<CExpr>, NoMemory>
+    fn expr_then(&mut self, alloc: Global, room: u32, end: &[u8]) -> Result<Option<CExpr>, NoMemory>
         ensures { IfOk result (λ e. Yields (before (read_expr room) end.now self.old.left.now) (option_map expr_of e) self.new.left.now) }
     {
         let Some(e) = self.expr(alloc, room)? else {

@@ -1,4 +1,4 @@
-use Rattle.std.proofs.Common.{rules, ◌≡◌, ◌<◌, arith}
+use Rattle.std.proofs.Common.{◌<◌, arith}
 use Rattle.aol_cread.proofs.Loops.{expr_room}
 use Rattle.aol_cread.proofs.bytes.Reader.+expression.Goals as goal
 

@@ -1,4 +1,4 @@
-use Rattle.std.proofs.Common.{rules, ◌≡◌, Some, ap, ◌∙◌, sym}
+use Rattle.std.proofs.Common.{rules, Some, ap, ◌∙◌, sym}
 use Rattle.aol_cread.proofs.Formats.{expect_same}
 use Rattle.aol_cread.proofs.bytes.Reader.eat.Goals as goal
 

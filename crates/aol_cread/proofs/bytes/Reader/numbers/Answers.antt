@@ -1,7 +1,7 @@
-use Rattle.std.proofs.Common.{rules, ◌≡◌, ◌+◌, ◌-◌, ◌<◌, ◌++◌, ◌∷◌, [], arith, sym, ap, ◌∙◌, w64, FitsSigned}
+use Rattle.std.proofs.Common.{rules, ◌≡◌, ◌+◌, ◌-◌, ◌++◌, ◌∷◌, [], arith, sym, ap, ◌∙◌, w64, FitsSigned}
 use Rattle.std.proofs.lemmas.Int.{to_z-of_z}
 use Rattle.aol_cread.specs.Lines.{read_further}
-use Rattle.aol_cread.proofs.Loops.{continued, numbers_start, numbers_stop, further_more, further_stop, further_done}
+use Rattle.aol_cread.proofs.Loops.{continued, further_more, further_stop, further_done}
 use Rattle.aol_cread.proofs.bytes.Reader.numbers.Goals as goal
 
 pub returns-in_default-number_after : goal.returns-in_default-number_after

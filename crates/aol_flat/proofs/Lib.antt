@@ -81,3 +81,7 @@ pub mod Firsts
 mod Standing
 pub mod CellTable
 pub mod Crossing
+pub mod PortZip
+pub mod Unranking
+pub mod LeafForm
+pub mod LeafAt

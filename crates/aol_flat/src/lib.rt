@@ -19,6 +19,7 @@ pub mod limits;
 mod nodes;
 mod numbers;
 mod place;
+mod points;
 mod refused;
 mod shared;
 mod spot;

@@ -85,3 +85,5 @@ pub mod PortZip
 pub mod Unranking
 pub mod LeafForm
 pub mod LeafAt
+pub mod RunPoints
+pub mod Alongs

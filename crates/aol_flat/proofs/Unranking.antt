@@ -1,8 +1,10 @@
 -- Finding the indices of a point of a space by its rank, one after another.
-use Rattle.std.proofs.Common.{◌≡◌, ℕ, zero, suc, ◌+◌, ◌*◌, ◌/◌, ◌%◌, ◌<◌, ◌≤◌, length, take, drop, set, get_or, List, [], ◌∷◌, ◌++◌, sym, ◌∙◌, ap, subst, arith, append_assoc, add-one, drop-cons}
+use Rattle.std.proofs.Common.{◌≡◌, ℕ, zero, suc, ◌+◌, ◌*◌, ◌/◌, ◌%◌, ◌<◌, ◌≤◌, length, take, drop, set, get_or, List, [], ◌∷◌, ◌++◌, Bool, true, false, IsTrue, ◌↔◌, sym, ◌∙◌, ap, subst, arith, append_assoc, add-one, drop-cons}
 use Rattle.std.proofs.Math.Nat.{mul-div_cancel_left, mod-lt}
 use Rattle.std.proofs.lemmas.List.{take_more_set}
-use Rattle.aol_shape.specs.Shape.{size, point_at}
+use Rattle.std.specs.Bool.{OnTrue}
+use Rattle.aol_shape.specs.Shape.{IsPointOf, size, rank, point_at}
+use Rattle.aol_shape.proofs.Points.{point_at-is, rank-point_at}
 
 -- the space of the entries that are left has `b` points, and its point with rank `x` comes after the indices in front
 pub record Unranks (d front whole : List ℕ) (b x : ℕ) : Type 0 where
@@ -49,3 +51,21 @@ one_more entries point whole k b x less same u =
         found = ap (λ f. f ++ point_at s (x % (b / n))) front ∙ (append_assoc (take k point) ((x / (b / n)) ∷ []) (point_at s (x % (b / n))) ∙ whole_is);
       };
     }
+
+-- ---- from one point to another
+
+pub is_point : (entries point : List ℕ) (count from : ℕ) → count ≡ size entries → from < count → point ≡ point_at entries from → IsPointOf entries point
+is_point entries point count from many low is = subst (IsPointOf entries) (sym is) (point_at-is entries from (omega (arith, many, low)))
+
+-- the next point is that with the next rank
+pub moved_next : (entries point new : List ℕ) (count from to : ℕ) (goes : Bool) → count ≡ size entries → from < count → point ≡ point_at entries from → to ≡ from + 1 → to < count
+    → IsTrue goes ↔ (rank entries point + 1 < size entries) → OnTrue goes (new ≡ point_at entries (rank entries point + 1)) → new ≡ point_at entries to
+moved_next entries point new count from to goes many low is step below more next =
+    let number : rank entries point ≡ from = ap (rank entries) is ∙ rank-point_at entries from (omega (arith, many, low)) in
+    let same : rank entries point + 1 ≡ to = omega (arith, number, step) in
+    let less : rank entries point + 1 < size entries = omega (arith, same, below, many) in
+    told goes (more.1 less) next ∙ ap (point_at entries) same
+  where
+    told : (b : Bool) → IsTrue b → OnTrue b (new ≡ point_at entries (rank entries point + 1)) → new ≡ point_at entries (rank entries point + 1)
+    told true h k = k
+    told false h k = cc

@@ -80,6 +80,12 @@ ReadsEach c many = (number : ℕ) → number < instances_on c.flat.model c.leaf 
 abbrev pub WritesEach : CursorOf → ℕ → Type 0
 WritesEach c many = (number : ℕ) → number < instances_on c.flat.model c.leaf → IsWriteCount c.flat (first_on c.flat.model c.leaf + number) many
 
+-- the indices are those of an instance of the leaf with this number
+pub record IsLeafPoint (m : Model) (number : ℕ) (at : List ℕ) : Type 0 where
+  pub leaf : Leaf
+  pub listed : slice_get (leaves m) number ≡ Some leaf
+  pub inside : IsPointOf leaf.space at
+
 -- the indices are those of this instance of the leaf
 pub record IsAlong (m : Model) (leaf number : ℕ) (at : List ℕ) : Type 0 where
   pub of_leaf : Leaf

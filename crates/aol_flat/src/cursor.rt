@@ -4,11 +4,15 @@ ghost use Rattle.std.specs.Prelude.{◌≡◌, ◌+◌, ◌<◌, length};
 ghost use Rattle.aol_model_types.specs.Rules.{inputs_of, outputs_of};
 ghost use Rattle.aol_flat.specs.Accept.{IsFlat};
 ghost use Rattle.aol_flat.specs.Cursor.{HasPortAt, ArePortReads, ArePortCells, IsRunPoint, AreReadsAt, AreWritesAt};
-ghost use Rattle.aol_flat.specs.LeafCursor.{HasPortsFrom, AreReadsFrom, AreCellsFrom, reads_each, writes_each};
+ghost use Rattle.aol_flat.specs.Instance.{leaves};
+ghost use Rattle.aol_flat.specs.LeafCursor.{HasPortsFrom, AreReadsFrom, AreCellsFrom, IsLeafPoint, reads_each, writes_each};
 
+use crate::counts::{elements_read, elements_written};
 use crate::feed::{input, output};
 use crate::flat::Flat;
+use crate::leaf::LeafKind;
 use crate::view::Read;
+use crate::walk::narrowed;
 
 impl Flat {
     /// The reads of all elements of an input of one instance of a node, in order of rank.
@@ -59,5 +63,77 @@ impl Flat {
         let (own, later) = into.split_at_mut(many);
         self.cells_at_port(node, port, at, own);
         self.cells_from(node, port + 1, at, later);
+    }
+
+    /// The reads of the instance of an elementary leaf at a point of its space, by port and rank.
+    fn run_reads(&self, leaf: u32, at: &[u32], into: &mut [Read])
+        requires point { IsRunPoint self.now.model leaf at.now }
+        requires many { length into.old ≡ reads_each self.now.model leaf }
+        ensures { AreReadsAt self.now leaf at.now into.new }
+    {
+        let _model = self.model();
+        self.reads_from(self.leaf_spot(leaf).node, 0, at, into);
+    }
+
+    /// The cells that it writes, by port and rank.
+    fn run_writes(&self, leaf: u32, at: &[u32], into: &mut [u32])
+        requires point { IsRunPoint self.now.model leaf at.now }
+        requires many { length into.old ≡ writes_each self.now.model leaf }
+        ensures { AreWritesAt self.now leaf at.now into.new }
+    {
+        let _model = self.model();
+        self.cells_from(self.leaf_spot(leaf).node, 0, at, into);
+    }
+
+    /// The reads of the instance of a leaf at a point of its space.
+    pub(crate) fn reads_on(&self, leaf: u32, at: &[u32], into: &mut [Read])
+        requires point { IsLeafPoint self.now.model leaf at.now }
+        requires many { length into.old ≡ reads_each self.now.model leaf }
+        ensures { AreReadsAt self.now leaf at.now into.new }
+    {
+        match self.leaf(leaf).kind {
+            LeafKind::Elementary(_) => self.run_reads(leaf, at, into),
+            LeafKind::Copy => into[0] = self.copy_read(leaf, at),
+        }
+    }
+
+    /// The cells that it writes.
+    pub(crate) fn writes_on(&self, leaf: u32, at: &[u32], into: &mut [u32])
+        requires point { IsLeafPoint self.now.model leaf at.now }
+        requires many { length into.old ≡ writes_each self.now.model leaf }
+        ensures { AreWritesAt self.now leaf at.now into.new }
+    {
+        match self.leaf(leaf).kind {
+            LeafKind::Elementary(_) => self.run_writes(leaf, at, into),
+            LeafKind::Copy => into[0] = self.copy_write(leaf, at),
+        }
+    }
+
+    /// How many elements an instance of a leaf reads.
+    pub(crate) fn reads_of(&self, leaf: u32) -> u32
+        requires { leaf < length (leaves self.now.model) }
+        ensures { result ≡ reads_each self.now.model leaf }
+    {
+        let _model = self.model();
+        match self.leaf(leaf).kind {
+            LeafKind::Elementary(_) => {
+                narrowed(elements_read(self.task(self.leaf_spot(leaf).node)))
+            }
+            LeafKind::Copy => 1,
+        }
+    }
+
+    /// How many it writes.
+    pub(crate) fn writes_of(&self, leaf: u32) -> u32
+        requires { leaf < length (leaves self.now.model) }
+        ensures { result ≡ writes_each self.now.model leaf }
+    {
+        let _model = self.model();
+        match self.leaf(leaf).kind {
+            LeafKind::Elementary(_) => {
+                narrowed(elements_written(self.task(self.leaf_spot(leaf).node)))
+            }
+            LeafKind::Copy => 1,
+        }
     }
 }

@@ -83,6 +83,7 @@ along_there : (m : Model) (leaf number : ℕ) (t : IsThere m leaf number) → Is
 along_there m leaf number t = record { of_leaf = t.of_leaf; listed = t.listed; within = t.within; is = refl }
 
 pub each_reads : (c : CursorOf) (many : ℕ) → many ≡ reads_each c.flat.model c.leaf → ReadsEach c many
+unfolding leaf_there along_there
 each_reads c many is number low i got =
     let m : Model = c.flat.model in
     let t = leaf_there m c.leaf number low in
@@ -93,6 +94,7 @@ each_reads c many is number low i got =
     ∙ ap (λ j. sum (read_sizes m j)) same))
 
 pub each_writes : (c : CursorOf) (many : ℕ) → many ≡ writes_each c.flat.model c.leaf → WritesEach c many
+unfolding leaf_there along_there
 each_writes c many is number low i got =
     let m : Model = c.flat.model in
     let t = leaf_there m c.leaf number low in
@@ -101,3 +103,18 @@ each_writes c many is number low i got =
     is ∙ (ap (leaf_elements outputs_of m) t.listed
     ∙ (writes_on m t.of_leaf at (leaf_form m c.leaf t.of_leaf t.listed) (point_at-is t.of_leaf.space number t.within)
     ∙ ap (λ j. sum (written_sizes m j)) same))
+
+-- ---- as a cursor is seen
+
+-- the same instance of the same leaf
+pub same_along : (f g : Laid) (leaf other number : ℕ) (at is : List ℕ) → g ≡ f → other ≡ leaf → is ≡ at → IsAlong f.model leaf number at → IsAlong g.model other number is
+same_along f g leaf other number at is same_flat same_leaf same_at h =
+    subst (λ x. IsAlong g.model other number x) (sym same_at) (subst (λ k. IsAlong g.model k number at) (sym same_leaf) (subst (λ (x : Laid). IsAlong x.model leaf number at) (sym same_flat) h))
+
+pub reads_seen : (f : Laid) (leaf number : ℕ) (reads : List Read) (c : CursorOf) → f ≡ c.flat → leaf ≡ c.leaf → AreReadsOf f (first_on f.model leaf + number) reads → AreReadsOf c.flat (first_on c.flat.model c.leaf + number) reads
+reads_seen f leaf number reads c same_flat same_leaf h =
+    subst (λ k. AreReadsOf c.flat (first_on c.flat.model k + number) reads) same_leaf (subst (λ (x : Laid). AreReadsOf x (first_on x.model leaf + number) reads) same_flat h)
+
+pub writes_seen : (f : Laid) (leaf number : ℕ) (cells : List ℕ) (c : CursorOf) → f ≡ c.flat → leaf ≡ c.leaf → AreWritesOf f (first_on f.model leaf + number) cells → AreWritesOf c.flat (first_on c.flat.model c.leaf + number) cells
+writes_seen f leaf number cells c same_flat same_leaf h =
+    subst (λ k. AreWritesOf c.flat (first_on c.flat.model k + number) cells) same_leaf (subst (λ (x : Laid). AreWritesOf x (first_on x.model leaf + number) cells) same_flat h)

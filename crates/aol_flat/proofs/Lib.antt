@@ -87,3 +87,6 @@ pub mod LeafForm
 pub mod LeafAt
 pub mod RunPoints
 pub mod Alongs
+pub mod CopyLeaves
+pub mod CopyEnds
+pub mod CopyTargets

@@ -39,3 +39,4 @@ pub mod Feed
 pub mod Follow
 pub mod Cursor
 pub mod LeafCursor
+pub mod Copies

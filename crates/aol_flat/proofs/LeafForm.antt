@@ -120,8 +120,12 @@ module _ (m : Model) (sound : IsSound m) where
             let s : ℕ = size (space_around l.node) in
             let both : 1 ≤ size (space_around l.node ++ c.reshape.by.space) =
             omega (arith, size_both (space_around l.node) c.reshape.by.space, product_positive s (size c.reshape.by.space) (node_some l.node h.spaces) (size_positive c.reshape.by.space r.space.entry)) in
-            omega (arith, ap size c.space, size_both (space_around l.node ++ c.reshape.by.space) c.reshape.by.pattern,
-                product_positive (size (space_around l.node ++ c.reshape.by.space)) (size c.reshape.by.pattern) both (size_positive c.reshape.by.pattern r.pattern.entry))
+            omega (
+              arith,
+              ap size c.space,
+              size_both (space_around l.node ++ c.reshape.by.space) c.reshape.by.pattern,
+              product_positive (size (space_around l.node ++ c.reshape.by.space)) (size c.reshape.by.pattern) both (size_positive c.reshape.by.pattern r.pattern.entry),
+            )
       ]
 
 -- ---- how many elements

@@ -31,8 +31,7 @@ zip_numbered R h q a zero (y ∷ ys) same each = absurd (omega (arith, same))
 zip_numbered R h q a (suc n) [] same each = absurd (omega (arith, same))
 zip_numbered {Y = Y} R h q a (suc n) (y ∷ ys) same each =
     let here : a + 0 ≡ a = omega arith in
-    let next : (x : ℕ) → a + suc x ≡ (a + 1) + x = λ x. omega arith in
-    (
+    let next : (x : ℕ) → a + suc x ≡ (a + 1) + x = λ x. omega arith in (
       subst (λ k. R (h (q k)) y) here (each 0 y refl),
       zip_numbered R h q (a + 1) n ys (omega (arith, same)) (λ x z at. subst (λ k. R (h (q k)) z) (next x) (each (suc x) z at)),
     )
@@ -153,10 +152,10 @@ module _ {Y : Type 0} (R : Element → Y → Type 0) (m : Model) (ports : Task �
       let index : List ℕ → Element = λ x. record { place = place; port = h.port.name; index = x } in
       let first : AllZip R (port_elements place h.port) own =
       zip_numbered R index (point_at h.port.shape) 0 (size h.port.shape) own count (λ x y got.
-          let number_is : 0 + x ≡ x = omega arith in
-          let low : x < size h.port.shape = omega (arith, count, slice_get_within own x y got) in
-          subst (λ n. R (element_on h.node at h.port n) y) (sym number_is)
-          (each x y got (element_on h.node at h.port x) (record { node = h.node; task = h.task; at_node = h.at_node; port = h.port; listed = h.listed; around = h.around; within = low; is = refl }))) in
+      let number_is : 0 + x ≡ x = omega arith in
+      let low : x < size h.port.shape = omega (arith, count, slice_get_within own x y got) in
+      subst (λ n. R (element_on h.node at h.port n) y) (sym number_is)
+      (each x y got (element_on h.node at h.port x) (record { node = h.node; task = h.task; at_node = h.at_node; port = h.port; listed = h.listed; around = h.around; within = low; is = refl }))) in
       let both : AllZip R (elements_of place (h.port ∷ drop (k + 1) (ports h.task))) (own ++ later) =
       zip_both R (port_elements place h.port) (elements_of place (drop (k + 1) (ports h.task))) own later first (rest h.node h.task h.at_node) in
       let of_task : AllZip R (elements_of place (drop k (ports h.task))) (own ++ later) = subst (λ ps. AllZip R (elements_of place ps) (own ++ later)) (sym h.rest) both in

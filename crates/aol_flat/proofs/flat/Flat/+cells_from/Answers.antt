@@ -4,7 +4,6 @@ use Rattle.std.specs.List.{AllZip}
 use Rattle.aol_shape.specs.Shape.{size}
 use Rattle.aol_expr_tree.specs.declared.port.Port.{Port}
 use Rattle.aol_model_types.specs.Rules.{outputs_of}
-
 use Rattle.aol_flat.specs.Laid.{IsCellOf}
 use Rattle.aol_flat.specs.LeafCursor.{elements_at}
 use Rattle.aol_flat.specs.Node.{place_on}

@@ -10,3 +10,4 @@ pub mod Starting
 pub mod Finding
 pub mod Gathering
 pub mod AddedRow
+pub mod Gathered

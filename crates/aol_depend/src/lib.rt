@@ -10,5 +10,5 @@ mod needs;
 mod refused;
 mod search;
 
-pub use levels::Levels;
+pub use levels::{Levels, levels};
 pub use refused::DependRefused;

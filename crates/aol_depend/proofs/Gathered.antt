@@ -1,19 +1,18 @@
 -- The needs of one instance after another.
-use Rattle.std.proofs.Common.{◌≡◌, ◌≤◌, ◌<◌, ◌^◌, ℕ, zero, suc, ◌+◌, ◌-◌, List, [], ◌∷◌, ◌++◌, map, length, get_or, slice_get, Option, Some, None, unwrap_or, option_map, sym, ◌∙◌, ap, refl, subst, arith, length-append, inl, inr}
+use Rattle.std.proofs.Common.{◌≡◌, ◌≤◌, ◌<◌, ◌^◌, ℕ, zero, suc, ◌+◌, List, [], ◌∷◌, ◌++◌, map, length, slice_get, Option, Some, None, Result, Ok, Err, IfOk, unwrap_or, option_map, sym, ◌∙◌, ap, refl, subst, arith, length-append, inl, inr}
 use Rattle.std.specs.List.{IsAmong, AllZip}
 use Rattle.std.proofs.lemmas.Bool.{cases_lt}
 use Rattle.std.proofs.lemmas.List.{map-append, length-map}
 use Rattle.std.proofs.lemmas.Option.{slice_get_within, slice_get-map}
 use Rattle.aol_flat.specs.Place.{Element}
-use Rattle.aol_flat.specs.Instance.{Instance, instances, read_elements}
-use Rattle.aol_flat.specs.Laid.{Laid, IsReadOf, IsCellOf}
+use Rattle.aol_flat.specs.Instance.{instances}
+use Rattle.aol_flat.specs.Laid.{Laid, IsReadOf}
 use Rattle.aol_flat.specs.Level.{Reads, AreReadsOf, AreReads, writers_read, with_writer, needed_by, above_all, AreLevels, IsInLoop, IsFirstInLoop}
 use Rattle.aol_flat.specs.declared.view.Read.{Read}
 use Rattle.aol_flat.specs.declared.view.Read.TheVariants.{Cell, Const}
-use Rattle.aol_flat.proofs.Names.{slice_get-left, slice_get-right}
-use Rattle.aol_flat.proofs.Among.{get_among}
+use Rattle.aol_flat.proofs.Names.{slice_get-right}
 use Rattle.aol_depend.specs.Needs.{Rows, row, AreWithin, HaveLevels, IsCircling, IsFirstCircling}
-use Rattle.aol_depend.specs.Rows.{AreStarts, rows_of}
+use Rattle.aol_depend.specs.Rows.{rows_of}
 use Rattle.aol_depend.specs.Gather.{IsInList, AreEntries, AreGathered, AreNeeds}
 use Rattle.aol_depend.proofs.Rows.{length-rows_of}
 use Rattle.aol_depend.proofs.AddedRow.{has_row}
@@ -115,11 +114,14 @@ needed_is reads list needs j e = ap (λ (rows : Rows). unwrap_or (slice_get rows
 
 pub levels_by_reads : (f : Laid) (list : List (Option ℕ)) (needs : Rows) (level : List ℕ) → AreNeeds f list needs → HaveLevels needs level → (reads : Reads) × AreReads f reads × AreLevels reads list level
 levels_by_reads f list needs level n h =
-    let many : length needs ≡ length n.0 = ap length n.2 ∙ length-map n.0 (writers_read list) in
-    (n.0, n.1, record {
-      many = h.many ∙ many;
-      each = λ j within. h.each j (omega (arith, within, many)) ∙ ap (above_all level) (needed_is n.0 list needs j n.2);
-    })
+    let many : length needs ≡ length n.0 = ap length n.2 ∙ length-map n.0 (writers_read list) in (
+      n.0,
+      n.1,
+      record {
+        many = h.many ∙ many;
+        each = λ j within. h.each j (omega (arith, within, many)) ∙ ap (above_all level) (needed_is n.0 list needs j n.2);
+      },
+    )
 
 circles : (reads : Reads) (list : List (Option ℕ)) (needs : Rows) (j : ℕ) → needs ≡ map (writers_read list) reads → IsCircling needs j → IsInLoop reads list j
 circles reads list needs j e c = record {
@@ -136,7 +138,16 @@ loops reads list needs j e c = record {
 }
 
 pub loop_by_reads : (f : Laid) (list : List (Option ℕ)) (needs : Rows) (j : ℕ) → AreNeeds f list needs → IsFirstCircling needs j → (reads : Reads) × AreReads f reads × IsFirstInLoop reads list j
-loop_by_reads f list needs j n h = (n.0, n.1, record {
-  in_loop = circles n.0 list needs j n.2 h.circling;
-  first = λ i lt l. h.first i lt (loops n.0 list needs i n.2 l);
-})
+loop_by_reads f list needs j n h = (
+  n.0,
+  n.1,
+  record {
+    in_loop = circles n.0 list needs j n.2 h.circling;
+    first = λ i lt l. h.first i lt (loops n.0 list needs i n.2 l);
+  },
+)
+
+-- what a value has, another fact follows from
+pub weaker_ok : {A E : Type 0} (r : Result A E) {P Q : A → Type 0} → ((a : A) → P a → Q a) → IfOk r P → IfOk r Q
+weaker_ok (Err e) f h = tt
+weaker_ok (Ok a) f h = f a h

@@ -4,7 +4,6 @@ ghost use Rattle.aol_depend.specs.Needs.{row};
 ghost use Rattle.aol_depend.specs.Rows.{AreStarts, rows_of};
 ghost use Rattle.std.specs.Prelude.{◌≡◌, ◌<◌, ◌≤◌, ◌^◌, length, slice_get, slice_range, Some};
 
-
 /// The instances that each instance needs, in one list.
 ///
 /// Those of an instance stand at the places from its own start up to the start of the next instance.

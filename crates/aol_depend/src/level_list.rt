@@ -2,15 +2,11 @@
 
 ghost use Rattle.std.specs.Prelude.{◌≡◌, ◌<◌, ◌+◌, ◌^◌, ℕ, fold, max, length, slice_get, Some, IfOk};
 ghost use Rattle.aol_flat.specs.InstanceNeed.{level_count};
-ghost use Rattle.aol_flat.specs.Level.{Reads, AreReads, AreLevels, IsFirstInLoop};
-ghost use Rattle.aol_depend.specs.Gather.{AreEntries};
 ghost use Rattle.aol_depend.specs.Needs.{AreWithin, HaveLevels, IsFirstCircling};
 
-use crate::gather::needs_of;
 use crate::needs::Needs;
 use crate::refused::DependRefused;
 use crate::search::Search;
-use aol_flat::Flat;
 use std::alloc::Global;
 
 /// The levels of all instances, in order, and how many levels there are.
@@ -45,25 +41,8 @@ fn greatest(numbers: &[u32]) -> u32
     greatest
 }
 
-/// The level of each instance of a model that is laid out, by the writer of each cell.
-///
-/// `writer_of` has one entry for each cell: the number of the instance that writes it, or none. An instance needs those
-/// that write the cells that it reads. `Cycle` tells the least instance of a set in which each needs one of the set.
-pub fn levels(
-    alloc: Global,
-    flat: &Flat,
-    writer_of: &[Option<u32>],
-) -> Result<Levels, DependRefused>
-    requires { AreEntries flat.now writer_of.now }
-    ensures levels { IfOk result (λ l. (reads : Reads) × AreReads flat.now reads × AreLevels reads writer_of.now l) }
-    ensures cycle { (j : ℕ) → result ≡ Err (DependRefused.Cycle j) → (reads : Reads) × AreReads flat.now reads × IsFirstInLoop reads writer_of.now j }
-{
-    let needs = needs_of(alloc, flat, writer_of)?;
-    levels_of(alloc, &needs)
-}
-
 /// The levels that a search finds for the instances that each instance needs.
-fn levels_of(alloc: Global, needs: &Needs) -> Result<Levels, DependRefused>
+pub fn levels_of(alloc: Global, needs: &Needs) -> Result<Levels, DependRefused>
     requires { AreWithin needs.now }
     ensures levels { IfOk result (HaveLevels needs.now) }
     ensures cycle { (j : ℕ) → result ≡ Err (DependRefused.Cycle j) → IsFirstCircling needs.now j }

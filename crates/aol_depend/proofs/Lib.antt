@@ -1,4 +1,5 @@
 pub mod Rows
+pub mod LeafRows
 pub mod Stack
 pub mod Moves
 pub mod Ranking
@@ -10,3 +11,4 @@ pub mod Starting
 pub mod Finding
 pub mod Gathering
 pub mod AddedRow
+pub mod Gathered

@@ -42,7 +42,7 @@ fn greatest(numbers: &[u32]) -> u32
 }
 
 /// The levels that a search finds for the instances that each instance needs.
-fn levels_of(alloc: Global, needs: &Needs) -> Result<Levels, DependRefused>
+pub fn levels_of(alloc: Global, needs: &Needs) -> Result<Levels, DependRefused>
     requires { AreWithin needs.now }
     ensures levels { IfOk result (HaveLevels needs.now) }
     ensures cycle { (j : ℕ) → result ≡ Err (DependRefused.Cycle j) → IsFirstCircling needs.now j }

@@ -1,0 +1,4 @@
+pub mod Counts
+pub mod WritingRanks
+pub mod Marking
+pub mod Members

@@ -1,0 +1,9 @@
+//! Single assignment of a model that is laid out: the one writer of each cell, or the first point that is written
+//! twice or is read and not given.
+//!
+//! Read `specs/Answers.antt` first.
+#![tactic(auto)]
+
+
+mod marks;
+mod pairs;

@@ -36,8 +36,8 @@ IsEarliest ws x None = earlier_writing ws x ≡ None
 IsEarliest ws x (Some n) = (n < length ws) × (earlier_writing ws x ≡ slice_get ws n)
 
 -- a pair, with the earlier one where there is one
-abbrev pub told : Option Writing → Writer → List ℕ → Option Repeat
-told before second point = option_map (λ (w : Writing). record { first = w.0; second = second; point = point }) before
+abbrev pub told_as : Option Writing → Writer → List ℕ → Option Repeat
+told_as before second point = option_map (λ (w : Writing). record { first = w.0; second = second; point = point }) before
 
 -- the first pair whose point an earlier one has
 abbrev pub repeat_of : List Writing → Option Repeat

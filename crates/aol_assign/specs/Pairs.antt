@@ -18,8 +18,8 @@ pub record FitsIn (array : List ℕ) (b : Member) : Type 0 where
   pub pattern_shape : IsShape b.pattern.now
 
 -- the pair with a number
-abbrev pub is_pair : Member → ℕ → Writer → Type 0
-is_pair b number w =
+abbrev pub IsPair : Member → ℕ → Writer → Type 0
+IsPair b number w =
     w ≡ record { item = b.item; rep = point_at b.space.now (number / size b.pattern.now); pattern = point_at b.pattern.now (number % size b.pattern.now) }
 
 -- what it writes into the array

@@ -3,9 +3,9 @@
 ghost use Rattle.std.specs.Prelude.{◌≡◌, ◌<◌, [], ◌++◌, List, length, IfOk, slice_get, option_map, MatchOption, None};
 ghost use Rattle.std.specs.List.{AllByRecursion};
 ghost use Rattle.aol_shape.specs.Shape.{size, point_at};
-ghost use Rattle.aol_flat.specs.Targets.{Writing, earlier_writing, first_repeat};
+ghost use Rattle.aol_flat.specs.Targets.{Writing, earlier_writing};
 ghost use Rattle.aol_assign.specs.Pairs.{FitsIn, member_writings, all_writings};
-ghost use Rattle.aol_assign.specs.Marks.{MarksOn, IsEarliest, repeat_of, told};
+ghost use Rattle.aol_assign.specs.Marks.{AreMarks, MarksOn, IsEarliest, repeat_of, told_as};
 
 use crate::pairs::{Member, point_of};
 use aol_flat::Writer;
@@ -77,6 +77,26 @@ fn earliest(alloc: Global, array: &Shape, members: &[Member], x: u32) -> Option<
     None
 }
 
+/// The first pair whose point an earlier one has, where no point is marked yet.
+fn first_repeat(
+    alloc: Global,
+    array: &Shape,
+    members: &[Member],
+    marks: &mut [bool],
+) -> Option<Repeat>
+    requires fits { AllByRecursion (FitsIn array.now) members.now }
+    requires room { length marks.old ≡ size array.now }
+    requires none { AreMarks array.now [] marks.old }
+    ensures { result ≡ repeat_of (all_writings array.now members.now) }
+{
+    for member in members {
+        if let Some(hit) = mark(array, member, marks) {
+            return told(alloc, array, members, member, hit);
+        }
+    }
+    None
+}
+
 /// The first pair whose point an earlier one has, with that earlier one.
 pub fn repeat_among(
     alloc: Global,
@@ -87,12 +107,7 @@ pub fn repeat_among(
     ensures { IfOk result (λ r. r ≡ repeat_of (all_writings array.now members.now)) }
 {
     let mut marks = vec![in alloc; false; array.size() as usize]?;
-    for member in members {
-        if let Some(hit) = mark(array, member, &mut marks) {
-            return Ok(told(alloc, array, members, member, hit));
-        }
-    }
-    Ok(None)
+    Ok(first_repeat(alloc, array, members, &mut marks))
 }
 
 /// A pair of a member, with the first pair of all that has its point.
@@ -104,9 +119,10 @@ fn told(
     hit: Hit,
 ) -> Option<Repeat>
     requires fits { AllByRecursion (FitsIn array.now) members.now }
+    requires own { FitsIn array.now member.now }
     requires within { hit.address < size array.now }
     requires pair { hit.number < length (member_writings array.now member.now) }
-    ensures { (w : Writing) → slice_get (member_writings array.now member.now) hit.number ≡ Some w → result ≡ told (earlier_writing (all_writings array.now members.now) (point_at array.now hit.address)) w.0 (point_at array.now hit.address) }
+    ensures { (w : Writing) → slice_get (member_writings array.now member.now) hit.number ≡ Some w → result ≡ told_as (earlier_writing (all_writings array.now members.now) (point_at array.now hit.address)) w.0 (point_at array.now hit.address) }
 {
     let first = earliest(alloc, array, members, hit.address)?;
     Some(Repeat {

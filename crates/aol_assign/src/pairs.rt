@@ -1,13 +1,12 @@
 //! Tilers that write one array, and the pairs of a repetition and a pattern element that they have.
 
-ghost use Rattle.std.specs.Prelude.{◌≡◌, ◌*◌, ◌<◌, ◌^◌, length, slice_get, Some, None, option_map, IfSome, IfNone};
-ghost use Rattle.aol_shape.specs.Shape.{IsPointOf, size, point_at};
-ghost use Rattle.aol_assign.specs.Pairs.{FitsIn, pair_count, member_writings, is_pair};
-ghost use Rattle.aol_flat.specs.Targets.{earlier_writing};
+ghost use Rattle.std.specs.Prelude.{◌≡◌, ◌<◌};
+ghost use Rattle.aol_shape.specs.Shape.{size, point_at};
+ghost use Rattle.aol_assign.specs.Pairs.{pair_count, IsPair};
 
 use aol_flat::Writer;
 use aol_shape::{Point, Shape, unrank_into};
-use aol_tiler::{Tiler, Walker};
+use aol_tiler::Tiler;
 use std::alloc::Global;
 
 /// A tiler of a list, with its number there, over a space and a pattern.
@@ -38,7 +37,7 @@ impl Member<'_> {
     /// The pair with this number, in row-major order of repetitions and of pattern elements.
     pub fn writer(&self, alloc: Global, number: u64) -> Writer
         requires { number < pair_count self.now }
-        ensures { is_pair self.now number result }
+        ensures { IsPair self.now number result }
     {
         let many = u64::from(self.pattern.size());
         Writer {

@@ -7,3 +7,5 @@
 
 mod marks;
 mod pairs;
+mod targets;
+mod tasks;

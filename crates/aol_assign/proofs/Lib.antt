@@ -2,3 +2,4 @@ pub mod Counts
 pub mod WritingRanks
 pub mod Marking
 pub mod Members
+pub mod Collecting

@@ -1,6 +1,6 @@
 //! The targets of a task, and the first of its points that is written twice.
 
-ghost use Rattle.std.specs.Prelude.{◌≡◌, ◌++◌, [], ◌∷◌, flat_map, map, true, IfOk};
+ghost use Rattle.std.specs.Prelude.{◌≡◌, ◌++◌, [], ◌∷◌, ◌<◌, ◌^◌, flat_map, map, true, length, IfOk};
 ghost use Rattle.std.specs.List.{AllByRecursion, enumerate_from};
 ghost use Rattle.std.specs.Option.{option_copied};
 ghost use Rattle.aol_expr_tree.specs.declared.port.Port.{Port};
@@ -41,7 +41,8 @@ fn tilers_on<'a>(
     inner: &'a Task,
     output: &Port,
 ) -> Result<Vec<Member<'a>>, AllocError>
-    requires { TilersFit task.now inner.now output.now }
+    requires few { length task.now.tilers < 2 ^ 32 }
+    requires fits { TilersFit task.now inner.now output.now }
     ensures same { IfOk result (λ v. (m : Model) → task_named m.tasks task.now.task ≡ Some inner.now → all_writings output.now.shape v.items ≡ flat_map (tiler_writings m task.now output.now) (enumerate_from 0 task.now.tilers)) }
     ensures fit { IfOk result (λ v. AllByRecursion (FitsIn output.now.shape) v.items) }
 {

@@ -1,21 +1,24 @@
 -- Members of a target collected from a list.
-use Rattle.std.proofs.Common.{◌≡◌, ℕ, zero, suc, ◌+◌, ◌<◌, List, [], ◌∷◌, ◌++◌, length, take, flat_map, get_or, Bool, true, false, cond, Option, Some, None, option_map, unwrap_or, sym, ◌∙◌, ap, refl, arith, subst}
+use Rattle.std.proofs.Common.{◌≡◌, ℕ, zero, suc, ◌+◌, ◌<◌, List, [], ◌∷◌, ◌++◌, length, take, flat_map, get_or, Bool, true, false, cond, ◌&&◌, map, slice_get, Option, Some, None, option_map, unwrap_or, sym, ◌∙◌, ap, refl, arith, subst}
 use Rattle.std.specs.List.{AllByRecursion, enumerate_from}
-use Rattle.std.proofs.lemmas.List.{append-nil}
+use Rattle.std.proofs.lemmas.List.{append-nil, map-append}
 use Rattle.std.proofs.lemmas.Grind.{flat_map-append}
 use Rattle.aol_shape.specs.Lists.{same}
 use Rattle.aol_expr_tree.specs.declared.port.Port.{Port}
 use Rattle.aol_model_types.specs.declared.document.Model.{Model}
+use Rattle.aol_model_types.specs.declared.task.Compound.{Compound}
+use Rattle.aol_model_types.specs.declared.task.Copied.{Copied}
 use Rattle.aol_model_types.specs.declared.task.Repeated.{Repeated}
 use Rattle.aol_model_types.specs.declared.task.Task.{Task}
 use Rattle.aol_model_types.specs.declared.task.TilerOn.{TilerOn}
-use Rattle.aol_model_types.specs.Rules.{task_named, outputs_of, port_shape}
-use Rattle.aol_flat.specs.Targets.{Writing, writings_of, tiler_writings}
+use Rattle.aol_model_types.specs.Rules.{task_named, outputs_of, port_shape, same_part}
+use Rattle.aol_flat.specs.Targets.{Writing, writings_of, tiler_writings, reshape_writings}
 use Rattle.aol_flat.proofs.Among.{among_get}
 use Rattle.aol_flat.proofs.Visiting.{numbered_more}
 use Rattle.aol_assign.specs.declared.pairs.Member.{Member}
 use Rattle.aol_assign.specs.Pairs.{FitsIn, member_writings, all_writings}
-use Rattle.aol_assign.specs.Found.{TilersFit}
+use Rattle.aol_assign.specs.declared.targets.Numbered.{Numbered}
+use Rattle.aol_assign.specs.Found.{TilersFit, AreInto, numbered}
 
 -- one more of a list of which all are so
 pub all_more : {X : Type 0} (P : X → Type 0) (xs : List X) (x : X) → AllByRecursion P xs → P x → AllByRecursion P (xs ++ x ∷ [])
@@ -84,3 +87,46 @@ module _ (t : Repeated) (inner : Task) (y : Port) (fits : TilersFit t inner y) (
   -- one without an inner output is none
   pub tiler_gone : same o.outer y.name ≡ true → port_shape (outputs_of inner) o.inner ≡ None → HasTilers t inner y (i + 1) bs
   tiler_gone on none = let f = fits i o (among_get t.tilers i o lt is) on in let no : Some f.pattern ≡ None = sym f.there ∙ none in cc
+
+-- the reshapes are those of so many that are into a part
+pub record HasReshapes (c : Compound) (part : Option (List ℕ)) (i : ℕ) (vs : List Numbered) : Type 0 where
+  pub same : (u : Port) → flat_map (reshape_writings part u) (numbered vs) ≡ flat_map (reshape_writings part u) (enumerate_from 0 (take i c.reshapes))
+  pub into : AreInto c part vs
+
+module _ (c : Compound) (part : Option (List ℕ)) (i : ℕ) (r : Copied) (lt : i < length c.reshapes) (is : r ≡ get_or c.reshapes i r) (vs : List Numbered) (so_far : HasReshapes c part i vs) where
+  numbered_one : (v : Numbered) → numbered (vs ++ v ∷ []) ≡ numbered vs ++ (v.item, v.reshape.now) ∷ []
+  numbered_one v = map-append (λ (w : Numbered). (w.item, w.reshape.now)) vs (v ∷ [])
+
+  -- one into the part
+  pub reshape_pushed : (v : Numbered) (new pushed : List Numbered) → new ≡ pushed → pushed ≡ vs ++ v ∷ [] → same_part r.to.part part ≡ true → v.item ≡ i → v.reshape.now ≡ r → HasReshapes c part (i + 1) new
+  reshape_pushed v new pushed e f at item it =
+      let P : List Numbered → Type 0 = λ ws. HasReshapes c part (i + 1) ws in
+      let Q : Copied → Type 0 = λ x. (slice_get c.reshapes v.item ≡ Some x) × (same_part x.to.part part ≡ true) in
+      subst P (sym (e ∙ f)) (record {
+        same = λ u.
+            let f = reshape_writings part u in
+            ap (flat_map f) (numbered_one v)
+            ∙ (flat_map-append f (numbered vs) ((v.item, v.reshape.now) ∷ [])
+            ∙ (ap (λ ys. flat_map f (numbered vs) ++ ys) (append-nil (f (v.item, v.reshape.now)))
+            ∙ (ap (λ ys. ys ++ f (v.item, v.reshape.now)) (so_far.same u)
+            ∙ (ap (λ k. flat_map f (enumerate_from 0 (take i c.reshapes)) ++ f (k, v.reshape.now)) item
+            ∙ (ap (λ x. flat_map f (enumerate_from 0 (take i c.reshapes)) ++ f (i, x)) it
+            ∙ sym (numbered_more f c.reshapes i r lt is))))));
+        into = all_more (λ (w : Numbered). (slice_get c.reshapes w.item ≡ Some w.reshape.now) × (same_part w.reshape.now.to.part part ≡ true)) vs v so_far.into
+            (subst Q (sym it) (ap (slice_get c.reshapes) item ∙ among_get c.reshapes i r lt is, at));
+      })
+
+  -- one into another
+  pub reshape_left : (new : List Numbered) → new ≡ vs → same_part r.to.part part ≡ false → HasReshapes c part (i + 1) new
+  reshape_left new e off =
+      let P : List Numbered → Type 0 = λ ws. HasReshapes c part (i + 1) ws in
+      subst P (sym e) (record {
+        same = λ u.
+            let f = reshape_writings part u in
+            let none : f (i, r) ≡ [] = ap (λ b. cond (b && same r.to.port u.name) (writings_of i r.by.target u.shape r.by.space r.by.pattern) []) off in
+            so_far.same u
+            ∙ (sym (append-nil (flat_map f (enumerate_from 0 (take i c.reshapes))))
+            ∙ (ap (λ ys. flat_map f (enumerate_from 0 (take i c.reshapes)) ++ ys) (sym none)
+            ∙ sym (numbered_more f c.reshapes i r lt is)));
+        into = so_far.into;
+      })

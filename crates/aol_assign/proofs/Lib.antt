@@ -3,3 +3,4 @@ pub mod WritingRanks
 pub mod Marking
 pub mod Members
 pub mod Collecting
+pub mod FirstFound

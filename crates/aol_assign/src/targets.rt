@@ -1,6 +1,6 @@
 //! The targets of a task, and the first of its points that is written twice.
 
-ghost use Rattle.std.specs.Prelude.{◌≡◌, ◌++◌, [], ◌∷◌, ◌<◌, ◌^◌, flat_map, map, true, length, IfOk};
+ghost use Rattle.std.specs.Prelude.{◌≡◌, ◌<◌, ◌^◌, ℕ, List, Option, flat_map, map, true, Some, length, IfOk};
 ghost use Rattle.std.specs.List.{AllByRecursion, enumerate_from};
 ghost use Rattle.std.specs.Option.{option_copied};
 ghost use Rattle.aol_expr_tree.specs.declared.port.Port.{Port};
@@ -9,6 +9,7 @@ ghost use Rattle.aol_model_types.specs.Rules.{same_part, task_named};
 ghost use Rattle.aol_flat.specs.Node.{Node};
 ghost use Rattle.aol_flat.specs.Targets.{tiler_writings, reshape_writings, output_target, reshape_target};
 ghost use Rattle.aol_assign.specs.Pairs.{FitsIn, all_writings};
+ghost use Rattle.aol_assign.specs.declared.targets.Numbered.{Numbered};
 ghost use Rattle.aol_assign.specs.Found.{found_in, TilersFit, AreInto, ReshapesFit, IntoFits, numbered};
 
 use crate::marks::{Repeat, repeat_among};
@@ -57,6 +58,90 @@ fn tilers_on<'a>(
                     pattern,
                 })?;
             }
+        }
+    }
+    Ok(members)
+}
+
+/// The first point of the outputs of a repeated task that is written twice; its inner task is this one.
+pub fn twice_in_repeated(
+    alloc: Global,
+    task: &Repeated,
+    inner: &Task,
+) -> Result<Option<Found>, NoMemory>
+    requires few { length task.now.tilers < 2 ^ 32 }
+    requires fits { AllByRecursion (TilersFit task.now inner.now) task.now.outs }
+    ensures { IfOk result (λ r. (m : Model) (node : Node) → task_named m.tasks task.now.task ≡ Some inner.now → r ≡ found_in (map (output_target m node task.now) task.now.outs)) }
+{
+    for output in task.outs.as_slice() {
+        let members = tilers_on(alloc, task, inner, output)?;
+        if let Some(repeat) = repeat_among(alloc, &output.shape, members.as_slice())? {
+            let port = output.name.copy(alloc)?;
+            return Ok(Some(Found {
+                part: None,
+                port,
+                repeat,
+            }));
+        }
+    }
+    Ok(None)
+}
+
+/// Whether both are one part, or neither is a part.
+fn are_at_same(one: Option<&Name>, other: Option<&Name>) -> bool
+    ensures { result ≡ same_part (option_copied one.entry) (option_copied other.entry) }
+{
+    match one {
+        None => other.is_none(),
+        Some(one) => match other {
+            None => false,
+            Some(other) => are_same(one, other),
+        },
+    }
+}
+
+/// The reshapes of a compound task into a part, or into its own outputs.
+fn reshapes_into<'a>(
+    alloc: Global,
+    task: &'a Compound,
+    part: Option<&Name>,
+) -> Result<Vec<Numbered<'a>>, AllocError>
+    requires { length task.now.reshapes < 2 ^ 32 }
+    ensures same { IfOk result (λ v. (u : Port) → flat_map (reshape_writings (option_copied part.entry) u) (numbered v.items) ≡ flat_map (reshape_writings (option_copied part.entry) u) (enumerate_from 0 task.now.reshapes)) }
+    ensures into { IfOk result (λ v. AreInto task.now (option_copied part.entry) v.items) }
+{
+    let mut into = Vec::new(alloc);
+    for (number, reshape) in task.reshapes.as_slice().iter().enumerate() {
+        if are_at_same(reshape.to.part.as_ref(), part) {
+            into.push(Numbered {
+                item: number as u32,
+                reshape,
+            })?;
+        }
+    }
+    Ok(into)
+}
+
+/// The target tilers of those reshapes that are into a port.
+fn targets_on<'a>(
+    alloc: Global,
+    into: &[Numbered<'a>],
+    port: &Port,
+) -> Result<Vec<Member<'a>>, AllocError>
+    requires { IntoFits port.now into.now }
+    ensures same { IfOk result (λ v. (part : Option (List ℕ)) → AllByRecursion (λ (n : Numbered). same_part n.reshape.now.to.part part ≡ true) into.now → all_writings port.now.shape v.items ≡ flat_map (reshape_writings part port.now) (numbered into.now)) }
+    ensures fit { IfOk result (λ v. AllByRecursion (FitsIn port.now.shape) v.items) }
+{
+    let mut members = Vec::new(alloc);
+    for numbered in into {
+        let reshape = numbered.reshape;
+        if are_same(&reshape.to.port, &port.name) {
+            members.push(Member {
+                item: numbered.item,
+                tiler: &reshape.by.target,
+                space: &reshape.by.space,
+                pattern: &reshape.by.pattern,
+            })?;
         }
     }
     Ok(members)

@@ -4,3 +4,4 @@ pub mod Marking
 pub mod Members
 pub mod Collecting
 pub mod FirstFound
+pub mod Fitting

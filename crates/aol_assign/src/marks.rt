@@ -106,6 +106,9 @@ pub fn repeat_among(
     requires { AllByRecursion (FitsIn array.now) members.now }
     ensures { IfOk result (λ r. r ≡ repeat_of (all_writings array.now members.now)) }
 {
+    if members.is_empty() {
+        return Ok(None);
+    }
     let mut marks = vec![in alloc; false; array.size() as usize]?;
     Ok(first_repeat(alloc, array, members, &mut marks))
 }

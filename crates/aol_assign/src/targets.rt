@@ -1,22 +1,26 @@
 //! The targets of a task, and the first of its points that is written twice.
 
-ghost use Rattle.std.specs.Prelude.{◌≡◌, ◌<◌, ◌^◌, ℕ, List, Option, flat_map, map, true, Some, length, IfOk};
+ghost use Rattle.std.specs.Prelude.{◌≡◌, ◌<◌, ◌^◌, ℕ, List, Option, flat_map, map, true, Some, None, length, slice_get, IfOk};
 ghost use Rattle.std.specs.List.{AllByRecursion, enumerate_from};
 ghost use Rattle.std.specs.Option.{option_copied};
 ghost use Rattle.aol_expr_tree.specs.declared.port.Port.{Port};
 ghost use Rattle.aol_model_types.specs.declared.document.Model.{Model};
-ghost use Rattle.aol_model_types.specs.Rules.{same_part, task_named};
+ghost use Rattle.aol_model_types.specs.declared.task.Part.{Part};
+ghost use Rattle.aol_model_types.specs.declared.task.Task.{Task};
+ghost use Rattle.aol_model_types.specs.declared.task.Task.TheVariants as tasks;
+ghost use Rattle.aol_model_types.specs.Rules.{same_part, task_named, inputs_named};
+ghost use Rattle.aol_flat.specs.Accept.{IsSound};
 ghost use Rattle.aol_flat.specs.Node.{Node};
-ghost use Rattle.aol_flat.specs.Targets.{tiler_writings, reshape_writings, output_target, reshape_target};
+ghost use Rattle.aol_flat.specs.Targets.{tiler_writings, reshape_writings, output_target, reshape_target, node_targets};
 ghost use Rattle.aol_assign.specs.Pairs.{FitsIn, all_writings};
 ghost use Rattle.aol_assign.specs.declared.targets.Numbered.{Numbered};
 ghost use Rattle.aol_assign.specs.Found.{found_in, TilersFit, AreInto, ReshapesFit, IntoFits, numbered};
 
 use crate::marks::{Repeat, repeat_among};
 use crate::pairs::Member;
-use crate::tasks::output_shape;
+use crate::tasks::{Tasks, output_shape};
 use aol_expr_tree::Port;
-use aol_model_types::{Compound, Copied, Repeated, Task};
+use aol_model_types::{Compound, Copied, Part, Repeated, Task};
 use aol_shape::{Name, NoMemory, are_same};
 use std::alloc::{AllocError, Global};
 
@@ -145,4 +149,89 @@ fn targets_on<'a>(
         }
     }
     Ok(members)
+}
+
+/// A copy of a part's name, where there is one.
+fn copied(alloc: Global, part: Option<&Name>) -> Result<Option<Name>, NoMemory>
+    ensures { IfOk result (λ r. r ≡ option_copied part.entry) }
+{
+    match part {
+        None => Ok(None),
+        Some(name) => {
+            let name = name.copy(alloc)?;
+            Ok(Some(name))
+        }
+    }
+}
+
+/// The first point of these ports, inputs of a part or own outputs of a compound task, that is written twice.
+fn twice_in_ports(
+    alloc: Global,
+    task: &Compound,
+    part: Option<&Name>,
+    ports: &[Port],
+) -> Result<Option<Found>, NoMemory>
+    requires few { length task.now.reshapes < 2 ^ 32 }
+    requires fits { ReshapesFit task.now (option_copied part) ports.now }
+    ensures { IfOk result (λ r. (node : Node) → r ≡ found_in (map (reshape_target node task.now (option_copied part.entry)) ports.now)) }
+{
+    let into = reshapes_into(alloc, task, part)?;
+    for port in ports {
+        let members = targets_on(alloc, into.as_slice(), port)?;
+        if let Some(repeat) = repeat_among(alloc, &port.shape, members.as_slice())? {
+            let part = copied(alloc, part)?;
+            let port = port.name.copy(alloc)?;
+            return Ok(Some(Found { part, port, repeat }));
+        }
+    }
+    Ok(None)
+}
+
+/// The first point of the inputs of a part of a compound task that is written twice.
+fn twice_in_part(
+    from: Tasks,
+    task: &Compound,
+    part: &Part,
+) -> Result<Option<Found>, NoMemory>
+    requires few { length task.now.reshapes < 2 ^ 32 }
+    requires fits { ReshapesFit task.now (Some part.now.name) (inputs_named from.model.now.tasks part.now.task) }
+    ensures { IfOk result (λ r. (node : Node) → r ≡ found_in (map (reshape_target node task.now (Some part.now.name)) (inputs_named from.entry.model.now.tasks part.now.task))) }
+{
+    twice_in_ports(
+        from.alloc,
+        task,
+        Some(&part.name),
+        from.inputs_named(&part.task),
+    )
+}
+
+/// The first point of the part inputs, and then of the own outputs, of a compound task that is written twice.
+fn twice_in_compound(from: Tasks, task: &Compound) -> Result<Option<Found>, NoMemory>
+    requires few { length task.now.reshapes < 2 ^ 32 }
+    requires parts { AllByRecursion (λ (p : Part). ReshapesFit task.now (Some p.name) (inputs_named from.model.now.tasks p.task)) task.now.parts }
+    requires own { ReshapesFit task.now None task.now.outs }
+    ensures { IfOk result (λ r. (node : Node) → r ≡ found_in (node_targets from.entry.model.now (node, tasks.Compound task.now))) }
+{
+    for part in task.parts.as_slice() {
+        if let Some(found) = twice_in_part(from, task, part)? {
+            return Ok(Some(found));
+        }
+    }
+    twice_in_ports(from.alloc, task, None, task.outs.as_slice())
+}
+
+/// The first point of the targets of a task that is written twice.
+pub fn twice_in(from: Tasks, number: u32) -> Result<Option<Found>, NoMemory>
+    requires within { number < length from.model.now.tasks }
+    requires sound { IsSound from.model.now }
+    ensures { IfOk result (λ r. (node : Node) (t : Task) → slice_get from.entry.model.now.tasks number ≡ Some t → r ≡ found_in (node_targets from.entry.model.now (node, t))) }
+{
+    match &from.model.tasks.as_slice()[number as usize] {
+        Task::Elementary(_) => Ok(None),
+        Task::Compound(task) => twice_in_compound(from, task),
+        Task::Repeated(task) => match from.named(&task.task) {
+            None => Ok(None),
+            Some(inner) => twice_in_repeated(from.alloc, task, inner),
+        },
+    }
 }

@@ -6,11 +6,11 @@ ghost use Rattle.std.specs.Option.{option_copied};
 ghost use Rattle.std.specs.Str.{bytes_eq};
 ghost use Rattle.std.specs.BTreeMap.{get_by_text};
 ghost use Rattle.aol_shape.specs.Lists.{same};
-ghost use Rattle.aol_model_types.specs.Rules.{task_name, inputs_of, outputs_of, port_shape};
+ghost use Rattle.aol_model_types.specs.Rules.{task_name, inputs_of, outputs_of, port_shape, task_named, inputs_named};
 ghost use Rattle.aol_flat.specs.Numbered.{FindsNumbers, number_named};
 
 use aol_expr_tree::Port;
-use aol_model_types::{OutPort, Task};
+use aol_model_types::{Model, OutPort, Task};
 use aol_shape::{Name, Shape, are_same};
 use std::alloc::{AllocError, Global};
 use std::collections::BTreeMap;
@@ -107,4 +107,35 @@ pub fn number_named(numbers: &BTreeMap<String, u32>, name: &Name) -> Option<u32>
     ensures { (tasks : List _) → FindsNumbers tasks numbers.now → result ≡ number_named tasks name.now }
 {
     numbers.get(name.as_str()).copied()
+}
+
+/// A model with the numbers of its tasks by their names.
+#[derive(Clone, Copy)]
+pub struct Tasks<'a> {
+    pub alloc: Global,
+    pub model: &'a Model,
+    pub numbers: &'a BTreeMap<String, u32>,
+    ghost found: { FindsNumbers model.now.tasks numbers.now },
+}
+
+impl<'a> Tasks<'a> {
+    /// The task with this name.
+    pub fn named(&self, name: &Name) -> Option<&'a Task>
+        ensures { option_copied result ≡ task_named self.now.model.now.tasks name.now }
+    {
+        match number_named(self.numbers, name) {
+            None => None,
+            Some(number) => Some(&self.model.tasks.as_slice()[number as usize]),
+        }
+    }
+
+    /// The inputs of the task with this name; none where there is no such task.
+    pub fn inputs_named(&self, name: &Name) -> &'a [Port]
+        ensures { result.now ≡ inputs_named self.now.model.now.tasks name.now }
+    {
+        match self.named(name) {
+            None => &[],
+            Some(task) => inputs_of(task),
+        }
+    }
 }

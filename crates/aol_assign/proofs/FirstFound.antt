@@ -1,5 +1,8 @@
 -- The first point of some targets that is written twice, target by target.
-use Rattle.std.proofs.Common.{◌≡◌, ℕ, suc, ◌+◌, ◌<◌, List, [], ◌∷◌, ◌++◌, length, map, flat_map, drop, get_or, true, Option, Some, None, option_map, sym, ◌∙◌, ap, refl, arith, subst, add-one}
+use Rattle.std.proofs.Common.{◌≡◌, ℕ, suc, ◌+◌, ◌<◌, List, [], ◌∷◌, ◌++◌, length, map, flat_map, drop, get_or, true, Option, Some, None, option_map, slice_get, Result, Ok, Err, sym, ◌∙◌, ap, refl, arith, subst, add-one}
+use Rattle.std.specs.Result.{IfOk}
+use Rattle.aol_model_types.specs.declared.document.Model.{Model}
+use Rattle.aol_model_types.specs.declared.task.Task.{Task}
 use Rattle.std.specs.List.{AllByRecursion, IsAmong, enumerate_from}
 use Rattle.std.proofs.lemmas.List.{append_assoc}
 use Rattle.std.proofs.Math.Seq.{drop-cons}
@@ -9,7 +12,7 @@ use Rattle.aol_model_types.specs.declared.task.Compound.{Compound}
 use Rattle.aol_model_types.specs.declared.task.Part.{Part}
 use Rattle.aol_model_types.specs.Rules.{same_part}
 use Rattle.aol_flat.specs.Node.{Node}
-use Rattle.aol_flat.specs.Targets.{Writing, Target, Twice, first_repeat, target_twice, reshape_writings, reshape_target}
+use Rattle.aol_flat.specs.Targets.{Writing, Target, Twice, first_repeat, target_twice, reshape_writings, reshape_target, node_targets}
 use Rattle.aol_assign.specs.declared.marks.Repeat.{Repeat}
 use Rattle.aol_assign.specs.declared.targets.Found.{Found}
 use Rattle.aol_assign.specs.declared.pairs.Member.{Member}
@@ -121,3 +124,14 @@ module _ (targets : Part → List Target) (parts : List Part) (own : List Target
 
   pub part_here : (f : Found) → found_in (targets p) ≡ Some f → found_in all ≡ Some f
   part_here f some = so_far ∙ (ap found_in next_part ∙ found_some (targets p) (flat_map targets (drop (i + 1) parts) ++ own) f some)
+
+-- ---- what a task answers
+
+-- what is ensured of an answer, in another form
+pub if_ok_as : {A E : Type 0} (P Q : A → Type 0) (r : Result A E) → ((x : A) → P x → Q x) → IfOk r P → IfOk r Q
+if_ok_as P Q (Ok x) f h = f x h
+if_ok_as P Q (Err e) f h = h
+
+-- the same for each task with the number
+pub of_number : (m : Model) (k : ℕ) (u : Task) (node : Node) (t : Task) → slice_get m.tasks k ≡ Some u → slice_get m.tasks k ≡ Some t → (r : Option Found) → r ≡ found_in (node_targets m (node, u)) → r ≡ found_in (node_targets m (node, t))
+of_number m k u node t at h r e = let both : Some u ≡ Some t = sym at ∙ h in let f : u ≡ t = cc in e ∙ ap (λ x. found_in (node_targets m (node, x))) f

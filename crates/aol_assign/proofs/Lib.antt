@@ -5,3 +5,4 @@ pub mod Members
 pub mod Collecting
 pub mod FirstFound
 pub mod Fitting
+pub mod TwiceWalk

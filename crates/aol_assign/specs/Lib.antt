@@ -1,3 +1,5 @@
 pub mod Pairs
 pub mod Marks
 pub mod Found
+pub mod Answers
+pub mod Visits

@@ -7,5 +7,7 @@
 
 mod marks;
 mod pairs;
+mod refused;
 mod targets;
 mod tasks;
+mod twice;

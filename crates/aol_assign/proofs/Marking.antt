@@ -275,12 +275,13 @@ module _ (array : List ℕ) (ws : List Writing) (x : ℕ) (below : x < size arra
         let w = sought.member in
         let point : w.1 ≡ point_at array x =
         one_point array w.1 (point_at array x) (inside number w sought.at) (point_at-is array x below) (sought.value ∙ (same_rank ∙ sym (rank-point_at array x below))) in
-        let passes : same w.1 (point_at array x) ≡ true = ap (λ y. same y (point_at array x)) point ∙ same-self (point_at array x) in
-        (sought.within,
-        so_far.left
-        ∙ (ap (λ ys. earlier_writing ys (point_at array x)) sought.left
-        ∙ (ap (λ b. cond b (Some w) (earlier_writing (drop (number + 1) ws) (point_at array x))) passes
-        ∙ sym sought.at)))
+        let passes : same w.1 (point_at array x) ≡ true = ap (λ y. same y (point_at array x)) point ∙ same-self (point_at array x) in (
+          sought.within,
+          so_far.left
+              ∙ (ap (λ ys. earlier_writing ys (point_at array x)) sought.left
+              ∙ (ap (λ b. cond b (Some w) (earlier_writing (drop (number + 1) ws) (point_at array x))) passes
+              ∙ sym sought.at)),
+        )
 
   pub seeking_ends : (number : ℕ) (now : List ℕ) → HasSought array ws (point_at array x) number now → now ≡ [] → IsEarliest ws (point_at array x) None
   seeking_ends number now so_far given =

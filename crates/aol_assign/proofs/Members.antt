@@ -120,12 +120,13 @@ module _ (array : List ℕ) (bs : List Member) (i : ℕ) (b : Member) (at : IsAt
         × (first_repeat [] (all_writings array bs) ≡ first_repeat (all_writings array (take (i + 1) bs)) (all_writings array (drop (i + 1) bs)))
     marks_all h =
         let fresh = h (all_writings array (take i bs)) marked in
-        let P : List Writing → Type 0 = λ s. AreMarks array s new in
-        (subst P (sym done_more) fresh.marked,
-        none
-        ∙ (ap (first_repeat (all_writings array (take i bs))) split_here
-        ∙ (fresh.none (all_writings array (drop (i + 1) bs))
-        ∙ ap (λ s. first_repeat s (all_writings array (drop (i + 1) bs))) (sym done_more))))
+        let P : List Writing → Type 0 = λ s. AreMarks array s new in (
+          subst P (sym done_more) fresh.marked,
+          none
+              ∙ (ap (first_repeat (all_writings array (take i bs))) split_here
+              ∙ (fresh.none (all_writings array (drop (i + 1) bs))
+              ∙ ap (λ s. first_repeat s (all_writings array (drop (i + 1) bs))) (sym done_more))),
+        )
 
     module _ (hit : Hit) (h : MarksOn array (member_writings array b) old new (Some hit)) where
       it : IsHit array (all_writings array (take i bs)) (member_writings array b) hit

@@ -1,6 +1,7 @@
 -- The walk over the nodes for the first point that is written twice.
-use Rattle.std.proofs.Common.{◌≡◌, ℕ, zero, suc, ◌+◌, ◌<◌, ◌≤◌, List, [], ◌∷◌, ◌++◌, length, map, flat_map, take, drop, get_or, codes, Bool, Option, Some, None, slice_get, option_map, Result, Ok, Err, sym, ◌∙◌, ap, refl, arith, ◌⊎◌, inl, inr, subst}
+use Rattle.std.proofs.Common.{◌≡◌, ℕ, zero, suc, ◌+◌, ◌<◌, ◌≤◌, List, [], ◌∷◌, ◌++◌, length, map, flat_map, take, drop, get_or, codes, Bool, true, false, Option, Some, None, slice_get, option_map, Result, Ok, Err, sym, ◌∙◌, ap, refl, arith, ◌⊎◌, inl, inr, subst}
 use Rattle.std.specs.List.{IsAmong, enumerate_from}
+use Rattle.std.specs.Prelude.{OnOk, IfErr}
 use Rattle.std.proofs.lemmas.List.{append-nil, map-append, take_all}
 use Rattle.std.proofs.lemmas.Grind.{flat_map-append}
 use Rattle.aol_shape.specs.Lists.{first_some}
@@ -13,18 +14,21 @@ use Rattle.aol_model_types.specs.declared.task.Repeated.{Repeated}
 use Rattle.aol_model_types.specs.declared.task.Task.{Task}
 use Rattle.aol_model_types.specs.declared.task.Task.TheVariants as tasks
 use Rattle.aol_model_types.specs.Rules.{task_named, inputs_named}
-use Rattle.aol_flat.specs.Node.{Node, ToPart, ToBody, root_or, steps_text, node_path, nodes_below, node_task, branch_text}
+use Rattle.aol_flat.specs.Node.{Node, ToPart, ToBody, root_or, steps_text, node_path, nodes, nodes_below, node_task, branch_text}
+use Rattle.aol_flat.specs.Tasks.{main_task}
 use Rattle.aol_flat.specs.Numbered.{StandOnEarlier, number_named}
-use Rattle.aol_flat.specs.Targets.{Target, Twice, target_twice, node_targets, first_repeat, Writing, reshape_target, output_target}
+use Rattle.aol_flat.specs.Targets.{Target, Twice, IsSingleAssignment, target_twice, node_targets, first_repeat, Writing, reshape_target, output_target}
 use Rattle.aol_flat.specs.Walked.{StandsAt, IsStep, AreBelow, nodes_in}
 use Rattle.aol_flat.proofs.Agree.{IsAmong-tail}
 use Rattle.aol_flat.proofs.Among.{among_append, among_map, among_flat_map, map_among, get_among, among_get}
+use Rattle.aol_flat.proofs.Twice.{twice_is_found}
 use Rattle.aol_flat.proofs.TaskNumbers.{found, first_of_own, none_from}
 use Rattle.aol_flat.proofs.Visiting.{part_step, body_step, no_nodes, nodes_under, numbered_more, numbered_rest}
 use Rattle.aol_assign.specs.declared.refused.AssignRefused.{AssignRefused}
 use Rattle.aol_assign.specs.declared.refused.AssignRefused.TheVariants as refused
 use Rattle.aol_assign.specs.declared.targets.Found.{Found}
 use Rattle.aol_assign.specs.Found.{found_of, found_in}
+use Rattle.aol_assign.specs.Answers.{IsTwiceTold}
 use Rattle.aol_assign.specs.Visits.{IsRefusal, twice_at, AreTested, TellsTwice, EndsSo, GoesOver, TestsNode, GoesBelow, GoesDown, GoesOverParts}
 
 -- what a walk answers
@@ -231,3 +235,39 @@ module _ (m : Model) (c : Compound) (steps : List ℕ) where
       let P : List (Node × Task) → Type 0 = λ ns. GoesOver m ns s0 s2 (Err e) in
       subst P (sym (numbered_rest f c.parts i))
       (stops m (nodes_in fuel m node (enumerate_from 0 (take i c.parts))) (nodes_in fuel m node rest) s0 s1 s2 r e (front node fuel at stands low) was)
+
+-- ---- the whole model
+
+module _ (m : Model) where
+  -- no task is tested at first
+  none_tested : (s : List Bool) → ((k : ℕ) → get_or s k false ≡ false) → AreTested m s
+  none_tested s none k t node marked listed = let no : false ≡ true = sym (none k) ∙ marked in cc
+
+  all_nodes : (number : ℕ) (old s : List Bool) (r : Answer) → ((k : ℕ) → get_or old k false ≡ false) → number_named m.tasks m.main ≡ Some number → GoesBelow m number [] old s r → EndsSo m (nodes m) s r
+  all_nodes number old s r none named goes =
+      let f = found m.tasks m.main number named in
+      let stands : StandsAt m [] number f.task = record { at_node = f.is; listed = f.at; first = first_of_own m.tasks m.main number named } in
+      let P : Option Task → Type 0 = λ t. EndsSo m (nodes_below (length m.tasks) m t []) s r in
+      subst P (sym f.is) (goes [] f.task (length m.tasks) refl stands f.within (none_tested old none))
+
+  pub single_at_end : (number : ℕ) (old s : List Bool) (r : Answer) → ((k : ℕ) → get_or old k false ≡ false) → number_named m.tasks m.main ≡ Some number → GoesBelow m number [] old s r → OnOk r (IsSingleAssignment m)
+  single_at_end number old s (Ok done) none named goes = (twice_is_found m).0 (all_nodes number old s (Ok done) none named goes).0
+  single_at_end number old s (Err e) none named goes = tt
+
+  pub told_at_end : (number : ℕ) (old s : List Bool) (r : Answer) → ((k : ℕ) → get_or old k false ≡ false) → number_named m.tasks m.main ≡ Some number → GoesBelow m number [] old s r → IfErr r (IsTwiceTold m)
+  told_at_end number old s (Ok done) none named goes = tt
+  told_at_end number old s (Err e) none named goes = go (all_nodes number old s (Err e) none named goes)
+    where
+      go : (e ≡ refused.NoMemory) ⊎ TellsTwice m (nodes m) e → IsTwiceTold m e
+      go (inl h) = subst (IsTwiceTold m) (sym h) tt
+      go (inr t) =
+          let w = t.twice in
+          subst (IsTwiceTold m) (sym t.told)
+          (record { twice = w; is_first = t.first; same_path = refl; same_part = refl; same_port = refl; same_point = refl; same_first = refl; same_second = refl })
+
+  -- a model without a main task has no nodes
+  pub no_main : number_named m.tasks m.main ≡ None → IsSingleAssignment m
+  no_main none =
+      let missing : main_task m ≡ None = none_from 0 m.tasks m.main none in
+      let empty : nodes m ≡ [] = ap (λ t. nodes_below (length m.tasks) m t []) missing ∙ no_nodes m (length m.tasks) [] in
+      (twice_is_found m).0 (ap (twice_at m) empty)

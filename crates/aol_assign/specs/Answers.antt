@@ -2,10 +2,12 @@
 use Rattle.std.specs.Prelude.{◌≡◌, ℕ, List, Option, Some}
 use Rattle.aol_model_types.specs.declared.document.Model.{Model}
 use Rattle.aol_flat.specs.Node.{node_path}
-use Rattle.aol_flat.specs.Targets.{Twice, first_twice}
+use Rattle.aol_flat.specs.Targets.{Twice, first_twice, IsSingleAssignment}
 use Rattle.aol_flat.specs.Reads.{Reading, IsFirstUnwritten}
 use Rattle.aol_flat.specs.declared.view.Reader.{Reader}
 use Rattle.aol_flat.specs.declared.view.Writer.{Writer}
+use Rattle.aol_assign.specs.declared.refused.AssignRefused.{AssignRefused}
+use Rattle.aol_assign.specs.declared.refused.AssignRefused.TheVariants as refused
 
 -- the first point that is written twice: the path of its target's node, the target's part and port, the point, and the first two pairs that write it
 pub record TwiceIs (m : Model) (path : List ℕ) (part : Option (List ℕ)) (port point : List ℕ) (first second : Writer) : Type 0 where
@@ -25,3 +27,15 @@ pub record UnwrittenIs (m : Model) (reader : Reader) (port point : ℕ) : Type 0
   pub same_reader : reader ≡ reading.reader
   pub same_port : port ≡ reading.port
   pub same_point : point ≡ reading.rank
+
+-- a refusal for what is written twice tells the first such point
+abbrev pub IsTwiceTold : Model → AssignRefused → Type 0
+IsTwiceTold m (refused.Twice path part port point first second) = TwiceIs m path part port point first second
+IsTwiceTold m (refused.Unwritten reader port point) = ⊥
+IsTwiceTold m refused.NoMemory = Unit {0}
+
+-- a refusal tells the first point that is written twice, or where there is none the first read that isn't given
+abbrev pub IsRightlyTold : Model → AssignRefused → Type 0
+IsRightlyTold m (refused.Twice path part port point first second) = TwiceIs m path part port point first second
+IsRightlyTold m (refused.Unwritten reader port point) = IsSingleAssignment m × UnwrittenIs m reader port point
+IsRightlyTold m refused.NoMemory = Unit {0}

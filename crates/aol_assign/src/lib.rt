@@ -4,7 +4,6 @@
 //! Read `specs/Answers.antt` first.
 #![tactic(auto)]
 
-
 mod marks;
 mod pairs;
 mod refused;

@@ -1,6 +1,6 @@
 //! Marks of the points that pairs write, and the first pair whose point an earlier one has.
 
-ghost use Rattle.std.specs.Prelude.{◌≡◌, ◌<◌, [], ◌++◌, List, length, IfOk, slice_get, option_map, MatchOption, None};
+ghost use Rattle.std.specs.Prelude.{◌≡◌, ◌<◌, [], ℕ, length, false, IfOk, slice_get, slice_index_or, Some, option_map};
 ghost use Rattle.std.specs.List.{AllByRecursion};
 ghost use Rattle.aol_shape.specs.Shape.{size, point_at};
 ghost use Rattle.aol_flat.specs.Targets.{Writing, earlier_writing};
@@ -11,7 +11,7 @@ use crate::pairs::{Member, point_of};
 use aol_flat::Writer;
 use aol_shape::{NoMemory, Point, Shape};
 use aol_tiler::Walker;
-use std::alloc::Global;
+use std::alloc::{AllocError, Global};
 
 /// Two pairs that write one point.
 #[derive(Drop)]
@@ -26,6 +26,15 @@ pub struct Repeat {
 pub struct Hit {
     pub number: u64,
     pub address: u32,
+}
+
+/// So many marks, none of which is set.
+pub fn unmarked(alloc: Global, count: usize) -> Result<Vec<bool>, AllocError>
+    ensures many { IfOk result (λ v. length v.items ≡ count) }
+    ensures none { IfOk result (λ v. (k : ℕ) → slice_index_or v.items k false ≡ false) }
+{
+    let marks = vec![in alloc; false; count]?;
+    Ok(marks)
 }
 
 /// Marks the points that a member writes; it stops at the first pair whose point is marked.
@@ -109,7 +118,7 @@ pub fn repeat_among(
     if members.is_empty() {
         return Ok(None);
     }
-    let mut marks = vec![in alloc; false; array.size() as usize]?;
+    let mut marks = unmarked(alloc, array.size() as usize)?;
     Ok(first_repeat(alloc, array, members, &mut marks))
 }
 

@@ -188,11 +188,7 @@ fn twice_in_ports(
 }
 
 /// The first point of the inputs of a part of a compound task that is written twice.
-fn twice_in_part(
-    from: Tasks,
-    task: &Compound,
-    part: &Part,
-) -> Result<Option<Found>, NoMemory>
+fn twice_in_part(from: Tasks, task: &Compound, part: &Part) -> Result<Option<Found>, NoMemory>
     requires few { length task.now.reshapes < 2 ^ 32 }
     requires fits { ReshapesFit task.now (Some part.now.name) (inputs_named from.model.now.tasks part.now.task) }
     ensures { IfOk result (λ r. (node : Node) → r ≡ found_in (map (reshape_target node task.now (Some part.now.name)) (inputs_named from.entry.model.now.tasks part.now.task))) }

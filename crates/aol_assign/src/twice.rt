@@ -1,16 +1,19 @@
 //! The walk over all nodes in preorder, for the first point that is written twice.
 
-ghost use Rattle.std.specs.Prelude.{◌≡◌, ◌<◌, ◌++◌, codes, length, slice_get, Some, IfOk, List, ℕ, string_bytes};
+ghost use Rattle.std.specs.Prelude.{◌≡◌, ◌<◌, ◌++◌, codes, length, slice_get, Some, IfOk, OnOk, IfErr, ℕ, string_bytes};
 ghost use Rattle.aol_model_types.specs.declared.task.Task.TheVariants as tasks;
-ghost use Rattle.aol_flat.specs.Accept.{IsSound, IsFlat};
-ghost use Rattle.aol_flat.specs.Node.{Node, root_or, steps_text};
+ghost use Rattle.aol_flat.specs.Accept.{IsSound};
+ghost use Rattle.aol_flat.specs.Node.{root_or};
 ghost use Rattle.aol_flat.specs.Numbered.{number_named};
+ghost use Rattle.aol_flat.specs.Targets.{IsSingleAssignment};
+ghost use Rattle.aol_assign.specs.Answers.{IsTwiceTold};
 ghost use Rattle.aol_assign.specs.Visits.{IsRefusal, TestsNode, GoesBelow, GoesOverParts, GoesDown};
 
+use crate::marks::unmarked;
 use crate::refused::AssignRefused;
 use crate::targets::{Found, twice_in};
-use crate::tasks::{Tasks, number_named};
-
+use crate::tasks::{Tasks, number_named, numbers_of};
+use aol_flat::Flat;
 use aol_model_types::{Compound, Task};
 use aol_shape::{Name, NoMemory};
 use std::alloc::Global;
@@ -129,4 +132,35 @@ fn visit_below(
     };
     let steps = step_down(from.alloc, steps, step)?;
     visit(from, number, steps.as_str(), tested)
+}
+
+/// Tests all nodes of a model, whose main task has this number.
+fn test_all(from: Tasks, number: u32) -> Result<(), AssignRefused>
+    requires main { number_named from.model.now.tasks from.model.now.main ≡ Some number }
+    requires sound { IsSound from.model.now }
+    ensures ok { OnOk result (IsSingleAssignment from.entry.model.now) }
+    ensures refused { IfErr result (IsTwiceTold from.entry.model.now) }
+{
+    let mut tested = unmarked(from.alloc, from.model.tasks.len())?;
+    visit(from, number, "", &mut tested)
+}
+
+/// Tests that no point of a model is written twice.
+///
+/// `Twice` tells the first point that is; it never answers `Unwritten`.
+pub fn test_single(alloc: Global, flat: &Flat) -> Result<(), AssignRefused>
+    ensures ok { OnOk result (IsSingleAssignment flat.now.model) }
+    ensures refused { IfErr result (IsTwiceTold flat.now.model) }
+{
+    let model = flat.model();
+    let numbers = numbers_of(alloc, model.tasks.as_slice())?;
+    let Some(number) = number_named(&numbers, &model.main) else {
+        return Ok(());
+    };
+    let from = Tasks {
+        alloc,
+        model,
+        numbers: &numbers,
+    };
+    test_all(from, number)
 }

@@ -21,6 +21,6 @@ returns-in-Some c =
 pub loop-member-preserved : goal.loop-member-preserved
 loop-member-preserved c =
     let r =
-        marks_all c.args.array.now c.args.members.now c.loop-member.member-index c.member-item.result (at_place c.args.members.now c.loop-member.member-index c.member-item.result (omega arith) c.member-item.is)
-        c.loop-member.marks c.mark.new.marks c.loop-member.invariant.marked c.loop-member.invariant.none c.in_default.ensures in
+    marks_all c.args.array.now c.args.members.now c.loop-member.member-index c.member-item.result (at_place c.args.members.now c.loop-member.member-index c.member-item.result (omega arith) c.member-item.is)
+    c.loop-member.marks c.mark.new.marks c.loop-member.invariant.marked c.loop-member.invariant.none c.in_default.ensures in
     record { room = c.mark.auto.marks ∙ c.loop-member.invariant.room; marked = r.0; none = r.1 }

@@ -34,10 +34,13 @@ visit-visit_below-requires t c =
     let m = c.args.from.model.now in
     let u = c.index-as_slice-number.result in
     let is : u ≡ get_or m.tasks c.args.number u = c.index-as_slice-number.is ∙ ap (λ ts. get_or ts c.args.number u) c.as_slice.ensures in
-    let listed : slice_get m.tasks c.args.number ≡ Some (tasks.Repeated c.in-Repeated.task) = among_get m.tasks c.args.number u c.requires.1.1.0 is ∙ ap Some c.in-Repeated.is in
-    (omega arith,
-    ((λ j h. stand_on_earlier m c.requires.1.1.1.0.shapes c.args.number j (tasks.Repeated c.in-Repeated.task) c.in-Repeated.task.task listed (0, (omega arith, refl)) h),
-    (c.requires.1.1.1.0, c.test_node.auto.tested ∙ c.requires.1.1.1.1)))
+    let listed : slice_get m.tasks c.args.number ≡ Some (tasks.Repeated c.in-Repeated.task) = among_get m.tasks c.args.number u c.requires.1.1.0 is ∙ ap Some c.in-Repeated.is in (
+      omega arith,
+      (
+        (λ j h. stand_on_earlier m c.requires.1.1.1.0.shapes c.args.number j (tasks.Repeated c.in-Repeated.task) c.in-Repeated.task.task listed (0, (omega arith, refl)) h),
+        (c.requires.1.1.1.0, c.test_node.auto.tested ∙ c.requires.1.1.1.1),
+      ),
+    )
 
 pub visit-returns-in-Elementary : goal.visit-returns-in-Elementary
 visit-returns-in-Elementary t c =
@@ -95,10 +98,13 @@ visit_parts-visit_below-requires t c =
     let many : length c.as_slice-part-items.result.now ≡ length task.parts = ap length c.as_slice-part-items.ensures in
     let lt : i < length task.parts = omega (arith, many) in
     let is : part ≡ get_or task.parts i part = c.part-item.is ∙ ap (λ ps. get_or ps i part) c.as_slice-part-items.ensures in
-    let among : IsAmong (map (λ (q : Part). q.task) task.parts) part.task = map_among (λ (q : Part). q.task) task.parts part (get_among task.parts i part (among_get task.parts i part lt is)) in
-    (omega arith,
-    ((λ j h. stand_on_earlier m c.requires.1.1.1.0.shapes c.args.number j (tasks.Compound task) part.task c.requires.1.1.0 among h),
-    (c.requires.1.1.1.0, c.loop-part.invariant.room)))
+    let among : IsAmong (map (λ (q : Part). q.task) task.parts) part.task = map_among (λ (q : Part). q.task) task.parts part (get_among task.parts i part (among_get task.parts i part lt is)) in (
+      omega arith,
+      (
+        (λ j h. stand_on_earlier m c.requires.1.1.1.0.shapes c.args.number j (tasks.Compound task) part.task c.requires.1.1.0 among h),
+        (c.requires.1.1.1.0, c.loop-part.invariant.room),
+      ),
+    )
 
 pub visit_parts-returns-in_err-visit_below : goal.visit_parts-returns-in_err-visit_below
 visit_parts-returns-in_err-visit_below t c =

@@ -6,3 +6,4 @@ pub mod Collecting
 pub mod FirstFound
 pub mod Fitting
 pub mod TwiceWalk
+pub mod InstancesDiffer

@@ -3,3 +3,4 @@ pub mod Marks
 pub mod Found
 pub mod Answers
 pub mod Visits
+pub mod Cells

@@ -4,6 +4,7 @@
 //! Read `specs/Answers.antt` first.
 #![tactic(auto)]
 
+mod laws;
 mod marks;
 mod pairs;
 mod refused;

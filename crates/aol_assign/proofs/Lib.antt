@@ -7,3 +7,4 @@ pub mod FirstFound
 pub mod Fitting
 pub mod TwiceWalk
 pub mod InstancesDiffer
+pub mod ListedCopies

@@ -1,4 +1,5 @@
 use Rattle.aol_assign.proofs.InstancesDiffer.{one_number}
+use Rattle.aol_assign.proofs.ListedCopies.{only_pair}
 use Rattle.aol_assign.proofs.laws.instances_differ.Goals as goal
 
 pub returns : goal.returns

@@ -8,3 +8,4 @@ pub mod Fitting
 pub mod TwiceWalk
 pub mod InstancesDiffer
 pub mod ListedCopies
+pub mod CellWriters

@@ -138,7 +138,7 @@ module _ (m : Model) (sound : IsSound m) where
       let same_writing : w ≡ v = cc in
       ap (λ (z : Writing). z.0) same_writing
 
-  own_target : (place : Place) (c : Compound) (y : Port) → task_at m place ≡ Some (tasks.Compound c) → IsAmong c.outs y → (node : Node) × IsAmong (targets m) (reshape_target node c None y)
+  pub own_target : (place : Place) (c : Compound) (y : Port) → task_at m place ≡ Some (tasks.Compound c) → IsAmong c.outs y → (node : Node) × IsAmong (targets m) (reshape_target node c None y)
   own_target place c y h listed =
       let o = on_node m sound.shapes place (tasks.Compound c) h in
       let f : Part → List Target = λ p. map (reshape_target o.node c (Some p.name)) (inputs_named m.tasks p.task) in (
@@ -147,7 +147,7 @@ module _ (m : Model) (sound : IsSound m) where
             (among_right (flat_map f c.parts) (map (reshape_target o.node c None) c.outs) (reshape_target o.node c None y) (map_among (reshape_target o.node c None) c.outs y listed)),
       )
 
-  part_target : (place : Place) (c : Compound) (p : Part) (u : Port) → task_at m place ≡ Some (tasks.Compound c) → IsAmong c.parts p → IsAmong (inputs_named m.tasks p.task) u
+  pub part_target : (place : Place) (c : Compound) (p : Part) (u : Port) → task_at m place ≡ Some (tasks.Compound c) → IsAmong c.parts p → IsAmong (inputs_named m.tasks p.task) u
       → (node : Node) × IsAmong (targets m) (reshape_target node c (Some p.name) u)
   part_target place c p u h among listed =
       let o = on_node m sound.shapes place (tasks.Compound c) h in

@@ -1,5 +1,4 @@
 use Rattle.aol_assign.proofs.InstancesDiffer.{one_number}
-use Rattle.aol_assign.proofs.ListedCopies.{only_pair}
 use Rattle.aol_assign.proofs.laws.instances_differ.Goals as goal
 
 pub returns : goal.returns

@@ -9,3 +9,4 @@ pub mod TwiceWalk
 pub mod InstancesDiffer
 pub mod ListedCopies
 pub mod CellWriters
+pub mod WriterLists

@@ -4,3 +4,4 @@ pub mod Found
 pub mod Answers
 pub mod Visits
 pub mod Cells
+pub mod WriterList

@@ -11,3 +11,4 @@ mod refused;
 mod targets;
 mod tasks;
 mod twice;
+mod writers;

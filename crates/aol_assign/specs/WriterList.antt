@@ -1,0 +1,14 @@
+-- The list of the writers of cells, while it is made.
+use Rattle.std.specs.Prelude.{◌≡◌, ◌↔◌, ℕ, ◌<◌, List, [], ◌∷◌, length, slice_get, slice_set, Option, Some}
+use Rattle.aol_flat.specs.Laid.{Laid}
+use Rattle.aol_flat.specs.Level.{WritesCell}
+
+-- an instance at some cells of the list
+abbrev pub put_all : List (Option ℕ) → List ℕ → ℕ → List (Option ℕ)
+put_all list [] number = list
+put_all list (c ∷ cs) number = put_all (slice_set list c (Some number)) cs number
+
+-- the list has the writers of each cell among the first n instances
+pub record HasWriters (f : Laid) (n : ℕ) (list : List (Option ℕ)) : Type 0 where
+  pub many : length list ≡ length f.cells
+  pub some : (c j : ℕ) → (slice_get list c ≡ Some (Some j)) ↔ ((j < n) × WritesCell f j c)

@@ -10,3 +10,4 @@ pub mod InstancesDiffer
 pub mod ListedCopies
 pub mod CellWriters
 pub mod WriterLists
+pub mod GivenHomes

@@ -11,3 +11,4 @@ pub mod ListedCopies
 pub mod CellWriters
 pub mod WriterLists
 pub mod GivenHomes
+pub mod GivenCells

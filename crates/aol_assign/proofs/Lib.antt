@@ -12,3 +12,4 @@ pub mod CellWriters
 pub mod WriterLists
 pub mod GivenHomes
 pub mod GivenCells
+pub mod ReadingPlaces

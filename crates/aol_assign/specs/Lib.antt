@@ -5,3 +5,4 @@ pub mod Answers
 pub mod Visits
 pub mod Cells
 pub mod WriterList
+pub mod Holes

@@ -4,6 +4,7 @@
 //! Read `specs/Answers.antt` first.
 #![tactic(auto)]
 
+mod holes;
 mod laws;
 mod marks;
 mod pairs;

@@ -1,0 +1,14 @@
+-- Reads that are given, by the list of writers.
+use Rattle.std.specs.Prelude.{ℕ, ◌<◌, Bool, true, ◌||◌, nat_lt, is_some, List, length, slice_get, Option, None, unwrap_or}
+use Rattle.aol_flat.specs.declared.view.Read.{Read}
+use Rattle.aol_flat.specs.declared.view.Read.TheVariants.{Cell, Const}
+
+-- a default number, one of so many first cells, or a cell with a writer
+abbrev pub is_given_by : List (Option ℕ) → ℕ → Read → Bool
+is_given_by list inputs (Cell c) = nat_lt c inputs || is_some (unwrap_or (slice_get list c) None)
+is_given_by list inputs (Const n) = true
+
+-- a cell that is read is one of the list
+abbrev pub IsWithin : List (Option ℕ) → Read → Type 0
+IsWithin list (Cell c) = c < length list
+IsWithin list (Const n) = Unit {0}

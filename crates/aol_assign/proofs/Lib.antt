@@ -13,3 +13,4 @@ pub mod WriterLists
 pub mod GivenHomes
 pub mod GivenCells
 pub mod ReadingPlaces
+pub mod HolesTold

@@ -1,5 +1,5 @@
 -- The places of reads by port and rank, and the readings there.
-use Rattle.std.proofs.Common.{◌≡◌, ℕ, zero, suc, ◌+◌, ◌-◌, ◌<◌, ◌≤◌, Bool, true, cond, ◌&&◌, List, [], ◌∷◌, ◌++◌, length, map, flat_map, filter_map, drop, get_or, Option, Some, None, slice_get, option_map, option_and_then, unwrap_or, sym, ◌∙◌, ap, refl, arith, subst, add-one}
+use Rattle.std.proofs.Common.{◌≡◌, ℕ, zero, suc, ◌+◌, ◌-◌, ◌<◌, ◌≤◌, Bool, true, false, cond, ◌&&◌, List, [], ◌∷◌, ◌++◌, length, map, flat_map, filter_map, drop, get_or, Option, Some, None, slice_get, option_map, option_and_then, unwrap_or, sym, ◌∙◌, ap, refl, arith, subst, add-one}
 use Rattle.std.specs.Prelude.{sum, fold, nat_lt}
 use Rattle.std.proofs.Common.{lt-ltb}
 use Rattle.std.specs.Option.{option_to_list}
@@ -12,6 +12,10 @@ use Rattle.aol_expr_tree.specs.declared.port.Port.{Port}
 use Rattle.aol_flat.specs.Place.{Place, Element, port_elements, elements_of}
 use Rattle.aol_flat.specs.Instance.{places_of_sizes, port_sizes, element_of_port, port_element}
 use Rattle.aol_flat.specs.Reads.{Reading, reading_at}
+use Rattle.std.specs.List.{position_from}
+use Rattle.aol_assign.specs.Holes.{cells_from}
+use Rattle.aol_flat.specs.declared.view.Read.{Read}
+use Rattle.aol_flat.specs.declared.view.Read.TheVariants.{Cell}
 use Rattle.aol_flat.specs.declared.view.Reader.{Reader}
 use Rattle.aol_flat.proofs.Names.{slice_get-left, slice_get-right}
 
@@ -42,9 +46,19 @@ place_later k n sizes x h =
     let e : x ≡ length (map (pair k) (numbers_below n)) + (x - n) = omega (arith, many, h) in
     ap (slice_get (places_of_sizes k (n ∷ sizes))) e ∙ slice_get-right (map (pair k) (numbers_below n)) (places_of_sizes (k + 1) sizes) (x - n)
 
--- the sizes from a port on
-pub sizes_at : (ports : List Port) (i : ℕ) (p : Port) → i < length ports → p ≡ get_or ports i p → port_sizes (drop i ports) ≡ size p.shape ∷ port_sizes (drop (i + 1) ports)
-sizes_at ports i p lt is = ap port_sizes (drop-cons ports i p lt ∙ (ap (λ x. x ∷ drop (suc i) ports) (sym is) ∙ ap (λ n. p ∷ drop n ports) (sym (add-one i))))
+-- the sizes from a place on
+pub sizes_at : (sizes : List ℕ) (i : ℕ) → i < length sizes → drop i sizes ≡ get_or sizes i 0 ∷ drop (i + 1) sizes
+sizes_at sizes i lt = drop-cons sizes i 0 lt ∙ ap (λ k. get_or sizes i 0 ∷ drop k sizes) (sym (add-one i))
+
+-- the cells from a given one on
+pub cells_on : (t : Read → Bool) (first count n : ℕ) → n < count → t (Cell (first + n)) ≡ false
+    → position_from t n (cells_from (first + n) (count - n)) ≡ position_from t (n + 1) (cells_from (first + (n + 1)) (count - (n + 1)))
+cells_on t first count n lt off =
+    let left : count - n ≡ suc (count - (n + 1)) = omega (arith, lt) in
+    let next : (first + n) + 1 ≡ first + (n + 1) = omega arith in
+    ap (λ k. position_from t n (cells_from (first + n) k)) left
+    ∙ (ap (λ b. cond b (Some n) (position_from t (n + 1) (cells_from ((first + n) + 1) (count - (n + 1))))) off
+    ∙ ap (λ a. position_from t (n + 1) (cells_from a (count - (n + 1)))) next)
 
 fold_add : (a b : ℕ) (xs : List ℕ) → fold ◌+◌ (a + b) xs ≡ a + fold ◌+◌ b xs
 fold_add a b [] = refl

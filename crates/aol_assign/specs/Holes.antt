@@ -1,5 +1,6 @@
 -- Reads that are given, by the list of writers.
-use Rattle.std.specs.Prelude.{ℕ, ◌<◌, Bool, true, ◌||◌, nat_lt, is_some, List, length, slice_get, Option, None, unwrap_or}
+use Rattle.std.specs.Prelude.{ℕ, ◌<◌, Bool, true, ◌||◌, nat_lt, is_some, List, map, length, slice_get, Option, None, unwrap_or}
+use Rattle.aol_shape.specs.Lists.{numbers_from}
 use Rattle.aol_flat.specs.declared.view.Read.{Read}
 use Rattle.aol_flat.specs.declared.view.Read.TheVariants.{Cell, Const}
 
@@ -12,3 +13,7 @@ is_given_by list inputs (Const n) = true
 abbrev pub IsWithin : List (Option ℕ) → Read → Type 0
 IsWithin list (Cell c) = c < length list
 IsWithin list (Const n) = Unit {0}
+
+-- so many cells from this one on
+abbrev pub cells_from : ℕ → ℕ → List Read
+cells_from first count = map (λ c. Cell c) (numbers_from first count)

@@ -4,6 +4,7 @@
 //! Read `specs/Answers.antt` first.
 #![tactic(auto)]
 
+mod calls;
 mod holes;
 mod laws;
 mod marks;
@@ -12,4 +13,9 @@ mod refused;
 mod targets;
 mod tasks;
 mod twice;
-mod writers;
+mod writer_list;
+
+pub use calls::writers;
+pub use laws::{cells_have_one_writer, given_by_cells, instances_differ};
+pub use refused::AssignRefused;
+pub use writer_list::Writers;

@@ -6,3 +6,4 @@ pub mod Visits
 pub mod Cells
 pub mod WriterList
 pub mod Holes
+pub mod ReadsSoFar

@@ -9,13 +9,14 @@ mod holes;
 mod laws;
 mod marks;
 mod pairs;
+mod reads;
 mod refused;
 mod targets;
 mod tasks;
 mod twice;
 mod writer_list;
 
-pub use calls::writers;
+pub use calls::{assign, writers};
 pub use laws::{cells_have_one_writer, given_by_cells, instances_differ};
 pub use refused::AssignRefused;
 pub use writer_list::Writers;

@@ -74,6 +74,13 @@ pub fn output_shape<'a>(task: &'a Task, port: &Name) -> Option<&'a Shape>
     }
 }
 
+/// The task with this name, by a look at each.
+pub fn task_named<'a>(tasks: &'a [Task], name: &Name) -> Option<&'a Task>
+    ensures { option_copied result ≡ task_named tasks.now name.now }
+{
+    tasks.iter().find(|task| are_same(name_of(task), name))
+}
+
 /// Gives a name its number, in place of the one that it has.
 fn set(
     alloc: Global,

@@ -101,7 +101,7 @@ pub fn writer_list(alloc: Global, flat: &Flat) -> Result<Writers, AssignRefused>
 }
 
 /// stub: becomes flat.cells()
-fn cell_count(flat: &Flat) -> Result<u32, NoMemory>
+pub fn cell_count(flat: &Flat) -> Result<u32, NoMemory>
     ensures { IfOk result (λ n. n ≡ length flat.now.cells) }
 {
     Err(NoMemory)

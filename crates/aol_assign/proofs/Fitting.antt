@@ -58,7 +58,7 @@ module _ (m : Model) (sound : IsSound m) where
   limits_of : (k : ℕ) (t : Task) → slice_get m.tasks k ≡ Some t → IsTask t
   limits_of k t at = AllByRecursion-at IsTask m.tasks k t sound.read.model.tasks at
 
-  task_limits : (t : Task) → IsTaskOf m t → IsTask t
+  pub task_limits : (t : Task) → IsTaskOf m t → IsTask t
   task_limits t s = limits_of (length s.before + 0) t (ap (λ ts. slice_get ts (length s.before + 0)) s.split ∙ slice_get-right s.before (t ∷ s.rest) 0)
 
   shape_there : (o : Option (List ℕ)) → is_some o ≡ true → (s : List ℕ) × (o ≡ Some s)

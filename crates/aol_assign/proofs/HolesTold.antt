@@ -4,7 +4,7 @@ use Rattle.std.specs.Prelude.{nat_lt}
 use Rattle.std.specs.List.{IsAmong, AllZip, enumerate_from, position_from}
 use Rattle.std.specs.Option.{option_to_list}
 use Rattle.std.proofs.lemmas.Bool.{ltb-true}
-use Rattle.std.proofs.lemmas.List.{take_all}
+use Rattle.std.proofs.lemmas.List.{take_all, length-map}
 use Rattle.std.proofs.lemmas.Option.{slice_get_within}
 use Rattle.aol_shape.specs.Lists.{numbers_from}
 use Rattle.aol_expr_tree.specs.declared.port.Port.{Port}
@@ -33,10 +33,10 @@ use Rattle.aol_flat.proofs.Visiting.{numbered_more, numbered_rest}
 use Rattle.aol_flat_laws.proofs.OneWriter.{read_there}
 use Rattle.aol_assign.specs.Answers.{UnwrittenIs}
 use Rattle.aol_assign.specs.Cells.{IsGivenRead}
-use Rattle.aol_assign.specs.Holes.{is_given_by}
+use Rattle.aol_assign.specs.Holes.{is_given_by, cells_from}
 use Rattle.aol_assign.proofs.GivenCells.{given_by_cells}
 use Rattle.aol_assign.proofs.ListedCopies.{IsOfTask, listed_of}
-use Rattle.aol_assign.proofs.ReadingPlaces.{Aligned, aligned_get, aligned_element, ports_aligned}
+use Rattle.aol_assign.proofs.ReadingPlaces.{Aligned, aligned_get, aligned_element, ports_aligned, number_count}
 
 -- ---- the first that fails
 
@@ -283,3 +283,10 @@ module _ (f : Laid) (sound : IsSound f.model) (laid : IsLaid f) (single : IsSing
     main_hole x port rank found place =
         let h = hole_told Main (main_readings f.model) (places_of_sizes 0 (port_sizes (main_outputs f.model))) (main_output_elements f.model) (main_aligned f.model) reads zip exist x found (port, rank) place in
         record { reading = h.0; is_first = first_after IsReadGiven all_before (main_readings f.model) h.0 given_before h.1; same_reader = sym h.2; same_port = sym h.3; same_point = sym h.4 }
+
+-- a hole among so many cells has a number under that
+pub hole_under : (t : Read → Bool) (first count x : ℕ) → position_from t 0 (cells_from first count) ≡ Some x → x < count
+hole_under t first count x found =
+    let at = found_position t 0 (cells_from first count) x found in
+    let under = slice_get_within (cells_from first count) at.number at.member at.at in
+    omega (arith, at.shifted, under, length-map (numbers_from first count) (λ c. Cell c), number_count first count)

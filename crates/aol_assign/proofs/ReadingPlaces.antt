@@ -29,7 +29,7 @@ get_pair k a zero x h = absurd (omega (arith, h))
 get_pair k a (suc n) zero h = let e : a ≡ a + 0 = omega arith in ap (λ y. Some (pair k y)) e
 get_pair k a (suc n) (suc x) h = let e : (a + 1) + x ≡ a + suc x = omega arith in get_pair k (a + 1) n x (omega (arith, h)) ∙ ap (λ y. Some (pair k y)) e
 
-number_count : (a n : ℕ) → length (numbers_from a n) ≡ n
+pub number_count : (a n : ℕ) → length (numbers_from a n) ≡ n
 number_count a zero = refl
 number_count a (suc n) = ap suc (number_count (a + 1) n)
 

@@ -15,3 +15,4 @@ pub mod GivenCells
 pub mod ReadingPlaces
 pub mod HolesTold
 pub mod MainCells
+pub mod LeafNumbers

@@ -7,3 +7,4 @@ pub mod Cells
 pub mod WriterList
 pub mod Holes
 pub mod ReadsSoFar
+pub mod Cursor

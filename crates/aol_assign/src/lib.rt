@@ -5,6 +5,7 @@
 #![tactic(auto)]
 
 mod calls;
+mod cursor_stub;
 mod holes;
 mod laws;
 mod marks;

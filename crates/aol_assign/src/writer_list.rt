@@ -1,15 +1,18 @@
 //! The one writer of each cell.
 
-ghost use Rattle.std.specs.Prelude.{◌≡◌, ◌<◌, length, slice_get, Some, None, ℕ, OnOk, IfOk, IfErr};
+ghost use Rattle.std.specs.Prelude.{◌≡◌, ◌+◌, ◌<◌, take, length, slice_get, Some, None, ℕ, OnOk, IfOk, IfErr};
 ghost use Rattle.std.specs.List.{AllByRecursion};
 ghost use Rattle.aol_flat.specs.Accept.{IsFlat};
 ghost use Rattle.aol_flat.specs.Instance.{leaves};
+ghost use Rattle.aol_flat.specs.Leaves.{IsLeafRow, instances_of};
 ghost use Rattle.aol_flat.specs.Level.{AreWriters};
 ghost use Rattle.aol_flat.specs.Targets.{IsSingleAssignment};
-ghost use Rattle.aol_assign.specs.WriterList.{put_all, HasWriters, PutsLeaf};
+ghost use Rattle.aol_assign.specs.WriterList.{put_all, HasWriters};
+ghost use Rattle.aol_assign.specs.Cursor.{IsWriteCount};
 
 use crate::refused::AssignRefused;
-use aol_flat::Flat;
+use crate::cursor_stub::{LeafWrites, writes as cursor_writes};
+use aol_flat::{Flat, Leaf};
 use aol_shape::{Items, NoMemory};
 use std::alloc::{AllocError, Global};
 
@@ -54,14 +57,65 @@ fn put(list: &mut [Option<u32>], cells: &[u32], number: u32)
     }
 }
 
+/// Puts one instance of a leaf at the cells that it writes.
+fn put_one(
+    flat: &Flat,
+    writes: &mut LeafWrites,
+    row: &Leaf,
+    number: u32,
+    cells: &mut [u32],
+    list: &mut [Option<u32>],
+)
+    requires leaf { IsLeafRow flat.now.model writes.old.leaf row.now }
+    requires within { number < row.now.count }
+    requires flat { IsFlat flat.now }
+    requires single { IsSingleAssignment flat.now.model }
+    requires cursor { writes.old.flat.now ≡ flat.now }
+    requires many { IsWriteCount flat.now row.now.base (length cells.old) }
+    requires has { HasWriters flat.now (row.now.base + number) list.old }
+    ensures flat { writes.new.flat.now ≡ writes.old.flat.now }
+    ensures leaf { writes.new.leaf ≡ writes.old.leaf }
+    ensures has { HasWriters flat.now (row.now.base + (number + 1)) list.new }
+{
+    writes.of(number, cells);
+    put(list, cells, row.base + number);
+}
+
+/// Puts the instances of a leaf at the cells that they write; `cells` has room for those of one.
+fn put_instances(
+    flat: &Flat,
+    leaf: u32,
+    writes: &mut LeafWrites,
+    cells: &mut [u32],
+    list: &mut [Option<u32>],
+)
+    requires within { leaf < length (leaves flat.now.model) }
+    requires flat { IsFlat flat.now }
+    requires single { IsSingleAssignment flat.now.model }
+    requires cursor { writes.old.flat.now ≡ flat.now }
+    requires at { writes.old.leaf ≡ leaf }
+    requires many { IsWriteCount flat.now (instances_of (take leaf (leaves flat.now.model))) (length cells.old) }
+    requires has { HasWriters flat.now (instances_of (take leaf (leaves flat.now.model))) list.old }
+    ensures { HasWriters flat.now (instances_of (take (leaf + 1) (leaves flat.now.model))) list.new }
+{
+    let row = flat.leaf(leaf);
+    for number in 0..row.count {
+        put_one(flat, writes, row, number, cells, list);
+    }
+}
+
 /// Puts the instances of a leaf at the cells that they write.
 fn put_leaf(alloc: Global, flat: &Flat, leaf: u32, list: &mut [Option<u32>]) -> Result<(), NoMemory>
     requires within { leaf < length (leaves flat.now.model) }
     requires flat { IsFlat flat.now }
     requires single { IsSingleAssignment flat.now.model }
-    ensures { OnOk result (PutsLeaf flat.now leaf list.old list.new) }
+    requires has { HasWriters flat.now (instances_of (take leaf (leaves flat.now.model))) list.old }
+    ensures { OnOk result (HasWriters flat.now (instances_of (take (leaf + 1) (leaves flat.now.model))) list.new) }
 {
-    Err(NoMemory)
+    let mut writes = cursor_writes(flat, alloc, leaf)?;
+    let mut cells = vec![in alloc; 0u32; writes.many() as usize]?;
+    put_instances(flat, leaf, &mut writes, &mut cells, list);
+    Ok(())
 }
 
 /// Puts the instances of all leaves at the cells that they write.

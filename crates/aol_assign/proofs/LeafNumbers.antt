@@ -1,9 +1,10 @@
 -- The numbers of the instances of a leaf.
-use Rattle.std.proofs.Common.{◌≡◌, ℕ, zero, suc, ◌+◌, ◌<◌, ◌≤◌, ◌^◌, List, [], ◌∷◌, ◌++◌, length, map, flat_map, take, Option, Some, None, option_and_then, unwrap_or, slice_get, inl, inr, sym, ◌∙◌, ap, refl, arith, subst}
+use Rattle.std.proofs.Common.{◌≡◌, ℕ, zero, suc, ◌+◌, ◌<◌, ◌≤◌, ◌^◌, List, [], ◌∷◌, ◌++◌, length, map, flat_map, take, Option, Some, None, option_and_then, option_map, unwrap_or, slice_get, inl, inr, sym, ◌∙◌, ap, refl, arith, subst}
 use Rattle.std.specs.List.{IsAmong, enumerate_from}
 use Rattle.std.proofs.lemmas.List.{length-map}
 use Rattle.aol_shape.specs.Lists.{numbers_from, numbers_below}
-use Rattle.aol_shape.specs.Shape.{size, point_at, points}
+use Rattle.aol_shape.specs.Shape.{size, point_at, points, IsPointOf}
+use Rattle.aol_shape.proofs.Points.{point_at-is}
 use Rattle.aol_model_types.specs.declared.document.Model.{Model}
 use Rattle.aol_model_types.specs.declared.task.Elementary.{Elementary}
 use Rattle.aol_model_types.specs.declared.task.Part.{Part}
@@ -16,9 +17,10 @@ use Rattle.aol_flat.specs.declared.leaf.LeafKind.TheVariants as kinds
 use Rattle.aol_flat.specs.declared.view.Read.{Read}
 use Rattle.aol_flat.specs.Tasks.{main_task}
 use Rattle.aol_flat.specs.Numbered.{number_named}
-use Rattle.aol_flat.specs.Node.{Node, ToPart, ToBody, space_around, node_task, task_under}
+use Rattle.aol_flat.specs.Node.{Node, ToPart, ToBody, space_around, place_on, node_task, task_under}
+use Rattle.aol_flat.specs.Place.{task_at}
 use Rattle.aol_flat.proofs.Among.{among_append, among_map, among_flat_map, get_among}
-use Rattle.aol_flat.proofs.Find.{found_name}
+use Rattle.aol_flat.proofs.Find.{found_name, task_at_named}
 use Rattle.aol_flat.proofs.Names.{slice_get-left, slice_get-right}
 use Rattle.aol_flat.proofs.SourceBack.{at_number}
 use Rattle.aol_flat.proofs.TaskNumbers.{found, none_from}
@@ -26,12 +28,13 @@ use Rattle.aol_flat_laws.proofs.NodeTasks.{HasSpaces, task_on}
 use Rattle.aol_assign.proofs.ReadingPlaces.{number_count}
 use Rattle.aol_flat.specs.Instance.{Leaf, Work, Computes, Copies, leaves, leaves_below, reshape_leaf, Instance, Run, Copy, instance_on, leaf_instances, instances, port_sizes, read_sizes}
 use Rattle.aol_flat.specs.Laid.{Laid}
-use Rattle.aol_flat.specs.Leaves.{IsLeafRow, instances_of}
+use Rattle.aol_flat.specs.Leaves.{IsLeafRow, instances_of, kind_of}
 use Rattle.aol_flat.specs.Limits.{IsBounded}
 use Rattle.aol_flat.specs.Accept.{IsSound}
 use Rattle.aol_flat.proofs.Totals.{length-instances, all_few}
 use Rattle.aol_flat_laws.proofs.CellNeeds.{there_at}
 use Rattle.aol_assign.specs.Cursor.{AreReadsOf, AreWritesOf}
+use Rattle.aol_assign.specs.ReadsSoFar.{HasReadSizes, of_run, of_copy}
 
 -- those of one leaf more
 more_leaves : (ls : List Leaf) (k : ℕ) (l : Leaf) → slice_get ls k ≡ Some l → instances_of (take (k + 1) ls) ≡ instances_of (take k ls) + size l.space
@@ -160,7 +163,47 @@ module _ (m : Model) where
           let one : f.task ≡ t = cc in
           (k, e, f.at ∙ ap Some one)
 
--- the sizes that the instance of a row reads
-pub data HasReadSizes (m : Model) (i : Instance) : LeafKind → Type 0 where
-  of_run : (k : ℕ) (t : Task) → slice_get m.tasks k ≡ Some t → read_sizes m i ≡ port_sizes (inputs_of t) → HasReadSizes m i (kinds.Elementary k)
-  of_copy : read_sizes m i ≡ 1 ∷ [] → HasReadSizes m i kinds.Copy
+-- the sizes that an instance of a row reads
+module _ (m : Model) (sound : IsSound m) (k : ℕ) (row : LeafRow) (is : IsLeafRow m k row) (n : ℕ) (lt : n < row.count) (i : Instance) (at : slice_get (instances m) (row.base + n) ≡ Some i) where
+  abbrev l : Leaf
+  l = is.leaf
+
+  under : n < size l.space
+  under = omega (arith, lt, is.count)
+
+  instance_is : i ≡ instance_on l (point_at l.space n)
+  instance_is =
+      let there : slice_get (instances m) (row.base + n) ≡ Some (instance_on l (point_at l.space n)) =
+      ap (λ b. slice_get (instances m) (b + n)) is.base ∙ all_get (leaves m) k n l is.at under in
+      let both : Some i ≡ Some (instance_on l (point_at l.space n)) = sym at ∙ there in
+      cc
+
+  abbrev with_work : Work → Leaf
+  with_work w = record { node = l.node; work = w; space = l.space }
+
+  by_work : (w : Work) → l.work ≡ w → HasReadSizes m i row.kind
+  by_work (Copies j entries) e =
+      let leaf : l ≡ with_work (Copies j entries) = ap with_work e in
+      let kind : row.kind ≡ kinds.Copy = is.kind ∙ ap (kind_of m) leaf in
+      let P : LeafKind → Type 0 = λ x. HasReadSizes m i x in
+      let instance = instance_is ∙ ap (λ (x : Leaf). instance_on x (point_at l.space n)) leaf in
+      subst P (sym kind) (of_copy (ap (read_sizes m) instance))
+  by_work Computes e =
+      let leaf : l ≡ with_work Computes = ap with_work e in
+      let t = leaf_task m (length m.tasks) (main_task m) [] tt refl l (get_among (leaves m) k l is.at) e in
+      let P : List ℕ → Type 0 = λ s. IsPointOf s (point_at l.space n) in
+      let place : task_at m (place_on l.node (point_at l.space n)) ≡ Some (tasks.Elementary t.1.0) =
+      task_on m l.node t.0 (point_at l.space n) (subst P t.1.2 (point_at-is l.space n under)) ∙ t.1.1 in
+      let number = named_number m (tasks.Elementary t.1.0) (task_name (tasks.Elementary t.1.0)) (task_at_named m (place_on l.node (point_at l.space n)) (tasks.Elementary t.1.0) place) in
+      let kind : row.kind ≡ kinds.Elementary number.0 =
+      is.kind ∙ (ap (kind_of m) leaf
+      ∙ (ap (λ o. kinds.Elementary (unwrap_or (option_and_then (λ u. number_named m.tasks (task_name u)) o) 0)) t.1.1
+      ∙ ap (λ o. kinds.Elementary (unwrap_or o 0)) number.1)) in
+      let instance : i ≡ Run (place_on l.node (point_at l.space n)) = instance_is ∙ ap (λ (x : Leaf). instance_on x (point_at l.space n)) leaf in
+      let sizes : read_sizes m i ≡ port_sizes (inputs_of (tasks.Elementary t.1.0)) =
+      ap (read_sizes m) instance ∙ ap (λ o. unwrap_or (option_map (λ u. port_sizes (inputs_of u)) o) []) place in
+      let Q : LeafKind → Type 0 = λ x. HasReadSizes m i x in
+      subst Q (sym kind) (of_run number.0 (tasks.Elementary t.1.0) number.2 sizes)
+
+  pub row_reads : HasReadSizes m i row.kind
+  row_reads = by_work l.work refl

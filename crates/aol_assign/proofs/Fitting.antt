@@ -55,7 +55,7 @@ output_limits (tasks.Compound c) p h a = all_among IsPort c.outs p h.outs a
 output_limits (tasks.Repeated t) p h a = all_among IsPort t.outs p h.outs a
 
 module _ (m : Model) (sound : IsSound m) where
-  limits_of : (k : ℕ) (t : Task) → slice_get m.tasks k ≡ Some t → IsTask t
+  pub limits_of : (k : ℕ) (t : Task) → slice_get m.tasks k ≡ Some t → IsTask t
   limits_of k t at = AllByRecursion-at IsTask m.tasks k t sound.read.model.tasks at
 
   pub task_limits : (t : Task) → IsTaskOf m t → IsTask t

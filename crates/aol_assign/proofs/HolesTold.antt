@@ -290,3 +290,9 @@ hole_under t first count x found =
     let at = found_position t 0 (cells_from first count) x found in
     let under = slice_get_within (cells_from first count) at.number at.member at.at in
     omega (arith, at.shifted, under, length-map (numbers_from first count) (λ c. Cell c), number_count first count)
+
+-- a position is under the length
+pub position_under : (t : Read → Bool) (rs : List Read) (x : ℕ) → position_from t 0 rs ≡ Some x → x < length rs
+position_under t rs x found =
+    let at = found_position t 0 rs x found in
+    omega (arith, at.shifted, slice_get_within rs at.number at.member at.at)

@@ -1,6 +1,7 @@
 -- The numbers of the instances of a leaf.
 use Rattle.std.proofs.Common.{◌≡◌, ℕ, zero, suc, ◌+◌, ◌<◌, ◌≤◌, ◌^◌, List, [], ◌∷◌, ◌++◌, length, map, flat_map, take, Option, Some, None, option_and_then, option_map, unwrap_or, slice_get, inl, inr, sym, ◌∙◌, ap, refl, arith, subst}
-use Rattle.std.specs.List.{IsAmong, enumerate_from}
+use Rattle.std.specs.List.{IsAmong, AllZip, AllByRecursion, enumerate_from}
+use Rattle.std.proofs.lemmas.Option.{slice_get_within}
 use Rattle.std.proofs.lemmas.List.{length-map}
 use Rattle.aol_shape.specs.Lists.{numbers_from, numbers_below}
 use Rattle.aol_shape.specs.Shape.{size, point_at, points, IsPointOf}
@@ -27,14 +28,20 @@ use Rattle.aol_flat.proofs.TaskNumbers.{found, none_from}
 use Rattle.aol_flat_laws.proofs.NodeTasks.{HasSpaces, task_on}
 use Rattle.aol_assign.proofs.ReadingPlaces.{number_count}
 use Rattle.aol_flat.specs.Instance.{Leaf, Work, Computes, Copies, leaves, leaves_below, reshape_leaf, Instance, Run, Copy, instance_on, leaf_instances, instances, port_sizes, read_sizes}
-use Rattle.aol_flat.specs.Laid.{Laid}
+use Rattle.aol_flat.specs.Place.{Element}
+use Rattle.aol_flat.specs.Laid.{Laid, IsReadOf}
+use Rattle.aol_expr_tree.specs.declared.port.Port.{Port}
+use Rattle.aol_model_types.specs.Types.{IsTask}
+use Rattle.aol_flat.specs.declared.view.Read.TheVariants.{Cell, Const}
+use Rattle.aol_assign.specs.Holes.{IsWithin}
+use Rattle.aol_assign.proofs.Fitting.{limits_of}
 use Rattle.aol_flat.specs.Leaves.{IsLeafRow, instances_of, kind_of}
 use Rattle.aol_flat.specs.Limits.{IsBounded}
 use Rattle.aol_flat.specs.Accept.{IsSound}
 use Rattle.aol_flat.proofs.Totals.{length-instances, all_few}
 use Rattle.aol_flat_laws.proofs.CellNeeds.{there_at}
 use Rattle.aol_assign.specs.Cursor.{AreReadsOf, AreWritesOf}
-use Rattle.aol_assign.specs.ReadsSoFar.{HasReadSizes, of_run, of_copy}
+use Rattle.aol_assign.specs.ReadsSoFar.{HasReadSizes}
 
 -- those of one leaf more
 more_leaves : (ls : List Leaf) (k : ℕ) (l : Leaf) → slice_get ls k ≡ Some l → instances_of (take (k + 1) ls) ≡ instances_of (take k ls) + size l.space
@@ -187,7 +194,7 @@ module _ (m : Model) (sound : IsSound m) (k : ℕ) (row : LeafRow) (is : IsLeafR
       let kind : row.kind ≡ kinds.Copy = is.kind ∙ ap (kind_of m) leaf in
       let P : LeafKind → Type 0 = λ x. HasReadSizes m i x in
       let instance = instance_is ∙ ap (λ (x : Leaf). instance_on x (point_at l.space n)) leaf in
-      subst P (sym kind) (of_copy (ap (read_sizes m) instance))
+      subst P (sym kind) (ap (read_sizes m) instance)
   by_work Computes e =
       let leaf : l ≡ with_work Computes = ap with_work e in
       let t = leaf_task m (length m.tasks) (main_task m) [] tt refl l (get_among (leaves m) k l is.at) e in
@@ -203,7 +210,41 @@ module _ (m : Model) (sound : IsSound m) (k : ℕ) (row : LeafRow) (is : IsLeafR
       let sizes : read_sizes m i ≡ port_sizes (inputs_of (tasks.Elementary t.1.0)) =
       ap (read_sizes m) instance ∙ ap (λ o. unwrap_or (option_map (λ u. port_sizes (inputs_of u)) o) []) place in
       let Q : LeafKind → Type 0 = λ x. HasReadSizes m i x in
-      subst Q (sym kind) (of_run number.0 (tasks.Elementary t.1.0) number.2 sizes)
+      subst Q (sym kind) (tasks.Elementary t.1.0, number.2, sizes)
 
   pub row_reads : HasReadSizes m i row.kind
   row_reads = by_work l.work refl
+
+-- ---- reads of an instance
+
+pub run_sizes : (m : Model) (i : Instance) (k : ℕ) (kind : LeafKind) → HasReadSizes m i kind → kind ≡ kinds.Elementary k → (t : Task) × (slice_get m.tasks k ≡ Some t) × (read_sizes m i ≡ port_sizes (inputs_of t))
+run_sizes m i k (kinds.Elementary j) (t, at, sizes) e = let number : j ≡ k = cc in (t, ap (slice_get m.tasks) (sym number) ∙ at, sizes)
+run_sizes m i k kinds.Copy sizes e = cc
+
+-- the sizes of a task's inputs are those that its instance reads
+pub sizes_of_kind : (m : Model) (i : Instance) (k : ℕ) (kind : LeafKind) (t : Task) → HasReadSizes m i kind → kind ≡ kinds.Elementary k → slice_get m.tasks k ≡ Some t → read_sizes m i ≡ port_sizes (inputs_of t)
+sizes_of_kind m i k kind t has e at =
+    let r = run_sizes m i k kind has e in
+    let both : Some r.0 ≡ Some t = sym r.1 ∙ at in
+    let one : r.0 ≡ t = cc in
+    r.2 ∙ ap (λ u. port_sizes (inputs_of u)) one
+
+inputs_few : (t : Task) → IsTask t → length (inputs_of t) < 2 ^ 32
+inputs_few (tasks.Elementary e) h = h.in_count
+inputs_few (tasks.Compound c) h = h.in_count
+inputs_few (tasks.Repeated t) h = h.in_count
+
+pub read_sizes_few : (m : Model) → IsSound m → (i : Instance) (kind : LeafKind) → HasReadSizes m i kind → length (read_sizes m i) < 2 ^ 32
+read_sizes_few m sound i (kinds.Elementary k) (t, at, sizes) =
+    let few = inputs_few t (limits_of m sound k t at) in
+    let many = length-map (inputs_of t) (λ (p : Port). size p.shape) in
+    let all = ap length sizes in
+    omega (arith, few, many, all)
+read_sizes_few m sound i kinds.Copy sizes = let all = ap length sizes in omega (arith, all)
+
+-- cells that are read are cells
+pub reads_within : (f : Laid) (list : List (Option ℕ)) → length list ≡ length f.cells → (es : List Element) (rs : List Read) → AllZip (IsReadOf f) es rs → AllByRecursion (IsWithin list) rs
+reads_within f list many es [] z = tt
+reads_within f list many [] (r ∷ rs) z = absurd z
+reads_within f list many (e ∷ es) (Const n ∷ rs) z = (tt, reads_within f list many es rs z.1)
+reads_within f list many (e ∷ es) (Cell c ∷ rs) z = let k = slice_get_within f.cells c z.0.home z.0.at_cell in (omega (arith, many, k), reads_within f list many es rs z.1)

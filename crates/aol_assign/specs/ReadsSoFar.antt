@@ -49,9 +49,9 @@ ReadsMain m (Ok done) = AllGiven m
 ReadsMain m (Err e) = IsUnwrittenTold m e
 
 -- what the kind of a leaf says of the sizes that an instance of it reads
-pub data HasReadSizes (m : Model) (i : Instance) : LeafKind → Type 0 where
-  of_run : (k : ℕ) (t : Task) → slice_get m.tasks k ≡ Some t → read_sizes m i ≡ port_sizes (inputs_of t) → HasReadSizes m i (kinds.Elementary k)
-  of_copy : read_sizes m i ≡ 1 ∷ [] → HasReadSizes m i kinds.Copy
+abbrev pub HasReadSizes : Model → Instance → LeafKind → Type 0
+HasReadSizes m i (kinds.Elementary k) = (t : Task) × (slice_get m.tasks k ≡ Some t) × (read_sizes m i ≡ port_sizes (inputs_of t))
+HasReadSizes m i kinds.Copy = read_sizes m i ≡ 1 ∷ []
 
 -- an instance of a leaf of this kind has a read with this number
 abbrev pub IsReadNumber : Model → LeafKind → ℕ → Type 0

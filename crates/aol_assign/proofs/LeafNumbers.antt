@@ -40,7 +40,8 @@ use Rattle.aol_flat.specs.Limits.{IsBounded}
 use Rattle.aol_flat.specs.Accept.{IsSound}
 use Rattle.aol_flat.proofs.Totals.{length-instances, all_few}
 use Rattle.aol_flat_laws.proofs.CellNeeds.{there_at}
-use Rattle.aol_assign.specs.Cursor.{AreReadsOf, AreWritesOf}
+use Rattle.aol_flat.specs.Level.{AreReadsOf, AreWritesOf}
+use Rattle.aol_flat.specs.LeafCursor.{instances_on, leaf_size}
 use Rattle.aol_assign.specs.ReadsSoFar.{HasReadSizes}
 
 -- those of one leaf more
@@ -95,6 +96,13 @@ moved_reads f g leaf base n rs same at h =
     let P : Laid → Type 0 = λ x. AreReadsOf x (instances_of (take leaf (leaves x.model)) + n) rs in
     let Q : ℕ → Type 0 = λ b. AreReadsOf f (b + n) rs in
     subst Q (sym at) (subst P same h)
+
+-- a number under the count of a row is one of an instance of its leaf
+pub among_leaf : (f g : Laid) (k : ℕ) (row : LeafRow) → IsLeafRow f.model k row → g ≡ f → (n : ℕ) → n < row.count → n < instances_on g.model k
+among_leaf f g k row is same n lt =
+    let P : Laid → Type 0 = λ x. n < instances_on x.model k in
+    let size_is : instances_on f.model k ≡ size is.leaf.space = ap leaf_size is.at in
+    subst P (sym same) (omega (arith, lt, size_is, is.count))
 
 -- ---- the instance with a number of a leaf
 

@@ -5,7 +5,6 @@
 #![tactic(auto)]
 
 mod calls;
-mod cursor_stub;
 mod holes;
 mod laws;
 mod marks;

@@ -7,13 +7,12 @@ ghost use Rattle.aol_flat.specs.Leaves.{IsLeafRow, instances_of};
 ghost use Rattle.aol_flat.specs.Laid.{main_input_elements, main_output_elements};
 ghost use Rattle.aol_flat.specs.Tasks.{main_task, main_inputs, main_outputs};
 ghost use Rattle.aol_assign.specs.ReadsSoFar.{AreTested, AreGivenBefore, EndsReads, ReadsMain, HasReadSizes, IsReadNumber};
-ghost use Rattle.aol_assign.specs.Cursor.{IsReadCount};
+ghost use Rattle.aol_flat.specs.LeafCursor.{reads_each};
 
-use crate::cursor_stub::{LeafReads, reads as cursor_reads};
 use crate::holes::{first_bare, first_hole, input_sizes, output_sizes, place_of, total};
 use crate::refused::AssignRefused;
 use crate::tasks::task_named;
-use aol_flat::{Flat, Leaf, LeafKind, Read, Reader};
+use aol_flat::{Flat, Leaf, LeafKind, LeafReads, Read, Reader};
 use aol_model_types::Model;
 use std::alloc::{AllocError, Global};
 
@@ -50,12 +49,11 @@ fn test_one(
     requires leaf { IsLeafRow flat.now.model reads.old.leaf row.now }
     requires within { number < row.now.count }
     requires tested { AreTested flat.now list.now inputs }
-    requires cursor { reads.old.flat.now ≡ flat.now }
-    requires many { IsReadCount flat.now row.now.base (length taken.old) }
+    requires cursor { reads.old.flat ≡ flat.now }
+    requires many { length taken.old ≡ reads_each reads.old.flat.model reads.old.leaf }
     requires few { length taken.old < 2 ^ 32 }
     requires given { AreGivenBefore flat.now.model (row.now.base + number) }
-    ensures flat { reads.new.flat.now ≡ reads.old.flat.now }
-    ensures leaf { reads.new.leaf ≡ reads.old.leaf }
+    ensures same { reads.new ≡ reads.old }
     ensures given { EndsReads flat.now.model (row.now.base + (number + 1)) result }
 {
     reads.of(number, taken);
@@ -82,9 +80,9 @@ fn test_instances(
 ) -> Result<(), AssignRefused>
     requires within { leaf < length (leaves flat.now.model) }
     requires tested { AreTested flat.now list.now inputs }
-    requires cursor { reads.old.flat.now ≡ flat.now }
+    requires cursor { reads.old.flat ≡ flat.now }
     requires at { reads.old.leaf ≡ leaf }
-    requires many { IsReadCount flat.now (instances_of (take leaf (leaves flat.now.model))) (length taken.old) }
+    requires many { length taken.old ≡ reads_each reads.old.flat.model reads.old.leaf }
     requires few { length taken.old < 2 ^ 32 }
     requires given { AreGivenBefore flat.now.model (instances_of (take leaf (leaves flat.now.model))) }
     ensures { EndsReads flat.now.model (instances_of (take (leaf + 1) (leaves flat.now.model))) result }
@@ -109,7 +107,7 @@ fn test_leaf(
     requires given { AreGivenBefore flat.now.model (instances_of (take leaf (leaves flat.now.model))) }
     ensures { EndsReads flat.now.model (instances_of (take (leaf + 1) (leaves flat.now.model))) result }
 {
-    let mut reads = cursor_reads(flat, alloc, leaf)?;
+    let mut reads = flat.reads(alloc, leaf)?;
     let mut taken = vec![in alloc; Read::Const(0); reads.many() as usize]?;
     test_instances(alloc, flat, leaf, &mut reads, &mut taken, list, inputs)
 }

@@ -8,11 +8,10 @@ ghost use Rattle.aol_flat.specs.Leaves.{IsLeafRow, instances_of};
 ghost use Rattle.aol_flat.specs.Level.{AreWriters};
 ghost use Rattle.aol_flat.specs.Targets.{IsSingleAssignment};
 ghost use Rattle.aol_assign.specs.WriterList.{put_all, HasWriters};
-ghost use Rattle.aol_assign.specs.Cursor.{IsWriteCount};
+ghost use Rattle.aol_flat.specs.LeafCursor.{writes_each};
 
 use crate::refused::AssignRefused;
-use crate::cursor_stub::{LeafWrites, writes as cursor_writes};
-use aol_flat::{Flat, Leaf};
+use aol_flat::{Flat, Leaf, LeafWrites};
 use aol_shape::{Items, NoMemory};
 use std::alloc::{AllocError, Global};
 
@@ -70,11 +69,10 @@ fn put_one(
     requires within { number < row.now.count }
     requires flat { IsFlat flat.now }
     requires single { IsSingleAssignment flat.now.model }
-    requires cursor { writes.old.flat.now ≡ flat.now }
-    requires many { IsWriteCount flat.now row.now.base (length cells.old) }
+    requires cursor { writes.old.flat ≡ flat.now }
+    requires many { length cells.old ≡ writes_each writes.old.flat.model writes.old.leaf }
     requires has { HasWriters flat.now (row.now.base + number) list.old }
-    ensures flat { writes.new.flat.now ≡ writes.old.flat.now }
-    ensures leaf { writes.new.leaf ≡ writes.old.leaf }
+    ensures same { writes.new ≡ writes.old }
     ensures has { HasWriters flat.now (row.now.base + (number + 1)) list.new }
 {
     writes.of(number, cells);
@@ -92,9 +90,9 @@ fn put_instances(
     requires within { leaf < length (leaves flat.now.model) }
     requires flat { IsFlat flat.now }
     requires single { IsSingleAssignment flat.now.model }
-    requires cursor { writes.old.flat.now ≡ flat.now }
+    requires cursor { writes.old.flat ≡ flat.now }
     requires at { writes.old.leaf ≡ leaf }
-    requires many { IsWriteCount flat.now (instances_of (take leaf (leaves flat.now.model))) (length cells.old) }
+    requires many { length cells.old ≡ writes_each writes.old.flat.model writes.old.leaf }
     requires has { HasWriters flat.now (instances_of (take leaf (leaves flat.now.model))) list.old }
     ensures { HasWriters flat.now (instances_of (take (leaf + 1) (leaves flat.now.model))) list.new }
 {
@@ -112,7 +110,7 @@ fn put_leaf(alloc: Global, flat: &Flat, leaf: u32, list: &mut [Option<u32>]) -> 
     requires has { HasWriters flat.now (instances_of (take leaf (leaves flat.now.model))) list.old }
     ensures { OnOk result (HasWriters flat.now (instances_of (take (leaf + 1) (leaves flat.now.model))) list.new) }
 {
-    let mut writes = cursor_writes(flat, alloc, leaf)?;
+    let mut writes = flat.writes(alloc, leaf)?;
     let mut cells = vec![in alloc; 0u32; writes.many() as usize]?;
     put_instances(flat, leaf, &mut writes, &mut cells, list);
     Ok(())
@@ -147,16 +145,9 @@ pub fn writer_list(alloc: Global, flat: &Flat) -> Result<Writers, AssignRefused>
     ensures memory { IfErr result (λ e. e ≡ AssignRefused.NoMemory) }
 {
     flat.model();
-    let mut list = no_writers(alloc, cell_count(flat)? as usize)?;
+    let mut list = no_writers(alloc, flat.cells() as usize)?;
     put_leaves(alloc, flat, &mut list)?;
     Ok(Writers {
         of_cell: Items::from_vec(list),
     })
-}
-
-/// stub: becomes flat.cells()
-pub fn cell_count(flat: &Flat) -> Result<u32, NoMemory>
-    ensures { IfOk result (λ n. n ≡ length flat.now.cells) }
-{
-    Err(NoMemory)
 }

@@ -5,15 +5,28 @@
 //! `output_value`; the laws of solutions are functions that do nothing.
 #![tactic(auto)]
 
+mod below;
+mod cells;
+mod copies;
 mod counts;
+mod cursor;
+mod feed;
 mod flat;
+mod follow;
 mod instance;
 mod laws;
 mod leaf;
+mod leaf_cursor;
 pub mod limits;
+mod nodes;
 mod numbers;
+mod place;
+mod points;
 mod refused;
+mod shared;
 mod spot;
+mod stores;
+mod tables;
 mod view;
 mod visit;
 mod walk;
@@ -29,5 +42,7 @@ pub use laws::{
     sound_is_real, sound_sources_are_found, sources_are_right, twice_is_found,
 };
 pub use leaf::{Leaf, LeafKind};
+pub use leaf_cursor::{LeafReads, LeafWrites};
 pub use refused::FlatRefused;
+pub use shared::types_are_shared;
 pub use view::{End, Read, Reader, Writer};

@@ -1,5 +1,5 @@
 -- The numbers of the instances of a leaf.
-use Rattle.std.proofs.Common.{◌≡◌, ℕ, zero, suc, ◌+◌, ◌<◌, ◌≤◌, ◌^◌, List, [], ◌∷◌, ◌++◌, length, map, flat_map, take, Option, Some, None, option_and_then, option_map, unwrap_or, slice_get, inl, inr, sym, ◌∙◌, ap, refl, arith, subst}
+use Rattle.std.proofs.Common.{◌≡◌, ℕ, zero, suc, ◌+◌, ◌<◌, ◌≤◌, ◌^◌, List, [], ◌∷◌, ◌++◌, length, map, flat_map, take, Option, Some, None, option_and_then, option_map, unwrap_or, slice_get, get_or, inl, inr, sym, ◌∙◌, ap, refl, arith, subst}
 use Rattle.std.specs.List.{IsAmong, AllZip, AllByRecursion, enumerate_from}
 use Rattle.std.proofs.lemmas.Option.{slice_get_within}
 use Rattle.std.proofs.lemmas.List.{length-map}
@@ -41,6 +41,7 @@ use Rattle.aol_flat.specs.Accept.{IsSound}
 use Rattle.aol_flat.proofs.Totals.{length-instances, all_few}
 use Rattle.aol_flat_laws.proofs.CellNeeds.{there_at}
 use Rattle.aol_flat.specs.Level.{AreReadsOf, AreWritesOf}
+use Rattle.aol_flat.specs.Cursor.{IsReadCount}
 use Rattle.aol_flat.specs.LeafCursor.{instances_on, leaf_size}
 use Rattle.aol_assign.specs.ReadsSoFar.{HasReadSizes}
 
@@ -103,6 +104,13 @@ among_leaf f g k row is same n lt =
     let P : Laid → Type 0 = λ x. n < instances_on x.model k in
     let size_is : instances_on f.model k ≡ size is.leaf.space = ap leaf_size is.at in
     subst P (sym same) (omega (arith, lt, size_is, is.count))
+
+-- how much is read, likewise
+pub moved_count : (f g : Laid) (leaf base n many : ℕ) → g ≡ f → base ≡ instances_of (take leaf (leaves f.model)) → IsReadCount g (instances_of (take leaf (leaves g.model)) + n) many → IsReadCount f (base + n) many
+moved_count f g leaf base n many same at h =
+    let P : Laid → Type 0 = λ x. IsReadCount x (instances_of (take leaf (leaves x.model)) + n) many in
+    let Q : ℕ → Type 0 = λ b. IsReadCount f (b + n) many in
+    subst Q (sym at) (subst P same h)
 
 -- ---- the instance with a number of a leaf
 
@@ -229,13 +237,17 @@ pub run_sizes : (m : Model) (i : Instance) (k : ℕ) (kind : LeafKind) → HasRe
 run_sizes m i k (kinds.Elementary j) (t, at, sizes) e = let number : j ≡ k = cc in (t, ap (slice_get m.tasks) (sym number) ∙ at, sizes)
 run_sizes m i k kinds.Copy sizes e = cc
 
--- the sizes of a task's inputs are those that its instance reads
-pub sizes_of_kind : (m : Model) (i : Instance) (k : ℕ) (kind : LeafKind) (t : Task) → HasReadSizes m i kind → kind ≡ kinds.Elementary k → slice_get m.tasks k ≡ Some t → read_sizes m i ≡ port_sizes (inputs_of t)
-sizes_of_kind m i k kind t has e at =
+-- the sizes of the inputs of a task that was read from the list are those that its instance reads
+pub sizes_read : (m : Model) (i : Instance) (k : ℕ) (kind : LeafKind) (t : Task) → HasReadSizes m i kind → kind ≡ kinds.Elementary k → t ≡ get_or m.tasks k t → read_sizes m i ≡ port_sizes (inputs_of t)
+sizes_read m i k kind t has e is =
     let r = run_sizes m i k kind has e in
-    let both : Some r.0 ≡ Some t = sym r.1 ∙ at in
-    let one : r.0 ≡ t = cc in
+    let one : r.0 ≡ t = sym (got m.tasks k r.0 r.1) ∙ sym is in
     r.2 ∙ ap (λ u. port_sizes (inputs_of u)) one
+  where
+    got : (ts : List Task) (k : ℕ) (u : Task) → slice_get ts k ≡ Some u → get_or ts k t ≡ u
+    got [] k u h = cc
+    got (x ∷ ts) zero u h = let f : x ≡ u = cc in f
+    got (x ∷ ts) (suc k) u h = got ts k u h
 
 inputs_few : (t : Task) → IsTask t → length (inputs_of t) < 2 ^ 32
 inputs_few (tasks.Elementary e) h = h.in_count

@@ -7,4 +7,3 @@ pub mod Cells
 pub mod WriterList
 pub mod Holes
 pub mod ReadsSoFar
-pub mod Cursor

@@ -17,7 +17,7 @@ pub put-requires : goal.put-requires
 put-requires c =
     let f = c.args.flat.now in
     let row = c.args.row.now in
-    let cs = c.of.new._into in
+    let cs = c.of.new.into in
     let i = instance_there f.model c.args.writes.now.leaf row c.requires.leaf c.args.number c.requires.within in
     let zip = moved_writes f c.args.writes.now.flat c.args.writes.now.leaf row.base c.args.number cs c.requires.cursor c.requires.leaf.base c.of.ensures.writes i.0 i.1 in
     each_among (λ (x : ℕ). x < length c.args.list.now) cs
@@ -27,7 +27,7 @@ pub returns-clause-has : goal.returns-clause-has
 returns-clause-has c =
     let f = c.args.flat.now in
     let row = c.args.row.now in
-    let cs = c.of.new._into in
+    let cs = c.of.new.into in
     let i = instance_there f.model c.args.writes.now.leaf row c.requires.leaf c.args.number c.requires.within in
     let zip = moved_writes f c.args.writes.now.flat c.args.writes.now.leaf row.base c.args.number cs c.requires.cursor c.requires.leaf.base c.of.ensures.writes i.0 i.1 in
     let n : (row.base + c.args.number) + 1 ≡ row.base + (c.args.number + 1) = omega arith in

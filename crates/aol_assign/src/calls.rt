@@ -27,7 +27,6 @@ pub fn writers(alloc: Global, flat: &Flat) -> Result<Writers, AssignRefused>
     writer_list(alloc, flat)
 }
 
-
 /// The same where also every element that is read is given, by a main input, a default number, an elementary task or a
 /// reshape. `Unwritten` tells the first read that isn't, by instance, port and rank, and then the main outputs.
 pub fn assign(alloc: Global, flat: &Flat) -> Result<Writers, AssignRefused>

@@ -1,5 +1,5 @@
 -- Where the shapes of a model agree, the tilers and reshapes of its targets fit.
-use Rattle.std.proofs.Common.{◌≡◌, ℕ, zero, suc, ◌+◌, ◌<◌, List, [], ◌∷◌, ◌++◌, length, map, Bool, true, false, not, ◌&&◌, is_some, Option, Some, None, option_map, option_and_then, unwrap_or, slice_get, find, sym, ◌∙◌, ap, refl, arith, ◌⊎◌, inl, inr, subst}
+use Rattle.std.proofs.Common.{◌≡◌, ℕ, ◌+◌, List, [], ◌∷◌, ◌++◌, length, Bool, true, false, not, is_some, Option, Some, None, option_map, option_and_then, unwrap_or, slice_get, find, sym, ◌∙◌, ap, refl, arith, ◌⊎◌, inl, inr, subst}
 use Rattle.std.specs.List.{AllByRecursion, IsAmong, list_any}
 use Rattle.aol_shape.specs.Lists.{same}
 use Rattle.aol_shape.specs.Shape.{IsShape}
@@ -14,7 +14,6 @@ use Rattle.aol_model_types.specs.declared.task.Part.{Part}
 use Rattle.aol_model_types.specs.declared.task.Repeated.{Repeated}
 use Rattle.aol_model_types.specs.declared.task.Task.{Task}
 use Rattle.aol_model_types.specs.declared.task.Task.TheVariants as tasks
-use Rattle.aol_model_types.specs.declared.task.TilerOn.{TilerOn}
 use Rattle.aol_model_types.specs.Rules.{task_named, inputs_of, outputs_of, inputs_named, outputs_named, port_shape, part_named, same_part, to_shape, fits_in, is_earlier_task, is_new_part, part_checks, copied_checks, gives, takes, source_fits, target_fits}
 use Rattle.aol_model_types.specs.declared.place.Key.TheVariants.{KParts, KReshapes}
 use Rattle.aol_model_types.specs.Places.{to_key}

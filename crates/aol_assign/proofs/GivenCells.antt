@@ -1,21 +1,17 @@
 -- An element is given exactly where reading it gives a default number, a main input or a cell that is written.
 use Rattle.std.proofs.Common.{◌≡◌, ℕ, zero, suc, ◌<◌, List, [], ◌∷◌, ◌++◌, length, Option, Some, None, slice_get, sym, ◌∙◌, ap, refl, arith, ◌⊎◌, inl, inr, subst, unwrap_or, option_map}
 use Rattle.std.specs.List.{IsAmong}
-use Rattle.std.proofs.lemmas.Option.{slice_get_within}
 use Rattle.std.proofs.lemmas.List.{append_assoc}
-use Rattle.aol_model_types.specs.declared.document.Model.{Model}
 use Rattle.aol_model_types.specs.declared.task.Task.{Task}
 use Rattle.aol_model_types.specs.Rules.{inputs_of}
 use Rattle.aol_expr_tree.specs.declared.port.Port.{Port}
 use Rattle.aol_flat.specs.Tasks.{main_task, main_inputs}
 use Rattle.aol_flat.specs.Node.{nodes}
 use Rattle.std.specs.Prelude.{flat_map}
-use Rattle.aol_flat.specs.Place.{Element, IsElement, elements_of}
+use Rattle.aol_flat.specs.Place.{Element, elements_of}
 use Rattle.aol_flat.specs.Equation.{MainInput}
-use Rattle.aol_flat.specs.Home.{Home, Kept, Constant, home_of}
-use Rattle.aol_flat.specs.Laid.{Laid, IsLaid, IsReadOf, main_input_elements, main_output_elements, inner_cells, homes_of}
-use Rattle.aol_flat.specs.Level.{WritesCell}
-use Rattle.aol_flat.specs.Reads.{IsGiven}
+use Rattle.aol_flat.specs.Home.{Kept, home_of}
+use Rattle.aol_flat.specs.Laid.{Laid, IsLaid, IsReadOf, main_input_elements, main_output_elements, inner_cells}
 use Rattle.aol_flat.specs.Targets.{IsSingleAssignment}
 use Rattle.aol_flat.specs.Accept.{IsSound}
 use Rattle.aol_flat.specs.declared.view.Read.{Read}

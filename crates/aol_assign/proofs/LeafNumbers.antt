@@ -27,7 +27,7 @@ use Rattle.aol_flat.proofs.SourceBack.{at_number}
 use Rattle.aol_flat.proofs.TaskNumbers.{found, none_from}
 use Rattle.aol_flat_laws.proofs.NodeTasks.{HasSpaces, task_on}
 use Rattle.aol_assign.proofs.ReadingPlaces.{number_count}
-use Rattle.aol_flat.specs.Instance.{Leaf, Work, Computes, Copies, leaves, leaves_below, reshape_leaf, Instance, Run, Copy, instance_on, leaf_instances, instances, port_sizes, read_sizes}
+use Rattle.aol_flat.specs.Instance.{Leaf, Work, Computes, Copies, leaves, leaves_below, reshape_leaf, Instance, Run, instance_on, leaf_instances, instances, port_sizes, read_sizes}
 use Rattle.aol_flat.specs.Place.{Element}
 use Rattle.aol_flat.specs.Laid.{Laid, IsReadOf}
 use Rattle.aol_expr_tree.specs.declared.port.Port.{Port}

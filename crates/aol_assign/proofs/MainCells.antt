@@ -1,18 +1,18 @@
 -- The cells of the main outputs come right after those of the main inputs.
-use Rattle.std.proofs.Common.{◌≡◌, ℕ, zero, suc, ◌+◌, ◌<◌, ◌≤◌, ◌^◌, List, [], ◌∷◌, ◌++◌, length, map, flat_map, Option, Some, None, is_some, slice_get, option_map, unwrap_or, sym, ◌∙◌, ap, refl, arith, subst}
+use Rattle.std.proofs.Common.{◌≡◌, ℕ, ◌+◌, ◌<◌, ◌≤◌, ◌^◌, List, [], ◌∷◌, ◌++◌, length, flat_map, Option, Some, None, is_some, slice_get, option_map, unwrap_or, sym, ◌∙◌, ap, refl, arith, subst}
 use Rattle.std.specs.Prelude.{sum}
 use Rattle.std.specs.List.{IsAmong, AllZip}
 use Rattle.std.proofs.lemmas.List.{length-map, length-append, append_assoc}
-use Rattle.aol_shape.specs.Lists.{numbers_from, numbers_below}
+use Rattle.aol_shape.specs.Lists.{numbers_below}
 use Rattle.aol_shape.specs.Shape.{size, point_at, points}
 use Rattle.aol_expr_tree.specs.declared.port.Port.{Port}
 use Rattle.aol_model_types.specs.declared.document.Model.{Model}
 use Rattle.aol_model_types.specs.declared.task.OutPort.{OutPort}
 use Rattle.aol_model_types.specs.declared.task.Task.{Task}
 use Rattle.aol_model_types.specs.declared.task.Task.TheVariants as tasks
-use Rattle.aol_model_types.specs.Rules.{inputs_of, outputs_of}
+use Rattle.aol_model_types.specs.Rules.{outputs_of}
 use Rattle.aol_model_types.specs.Types.{IsTask}
-use Rattle.aol_flat.specs.Tasks.{main_task, main_outputs, main_inputs}
+use Rattle.aol_flat.specs.Tasks.{main_task, main_outputs}
 use Rattle.aol_flat.specs.Node.{nodes}
 use Rattle.aol_flat.specs.Place.{Place, Element, IsElement, port_elements, elements_of}
 use Rattle.aol_flat.specs.Home.{Kept, handed, home_of}
@@ -64,11 +64,12 @@ module _ (f : Laid) (sound : IsSound f.model) (laid : IsLaid f) where
       let own = output_own r.before r.place t at.port r.holds at.listed in
       let place : e.place ≡ [] = ap (λ (x : Element). x.place) at.is in
       let port : e.port ≡ at.port.name = ap (λ (x : Element). x.port) at.is in
-      let output : IsOutput f.model e = at_output f.model e [] at.port.name place port (output_there f.model sound.shapes [] t at.port.name h (ap is_some own)) in
-      (output_exists f.model sound [] t e h a,
-      output_home f.model e output
-      ∙ (ap (λ (x : Place). Kept (handed f.model x e.port e.index)) place
-      ∙ ap (λ (x : Place). Kept (record { place = x; port = e.port; index = e.index })) (sym place)))
+      let output : IsOutput f.model e = at_output f.model e [] at.port.name place port (output_there f.model sound.shapes [] t at.port.name h (ap is_some own)) in (
+        output_exists f.model sound [] t e h a,
+        output_home f.model e output
+            ∙ (ap (λ (x : Place). Kept (handed f.model x e.port e.index)) place
+            ∙ ap (λ (x : Place). Kept (record { place = x; port = e.port; index = e.index })) (sym place)),
+      )
 
   pub main_exist : (e : Element) → IsAmong (main_output_elements f.model) e → IsElement f.model e
   main_exist e a = (main_there (main_task f.model) refl e a).0
@@ -80,9 +81,10 @@ module _ (f : Laid) (sound : IsSound f.model) (laid : IsLaid f) where
       let at : slice_get f.cells (length xs) ≡ Some y =
       ap (slice_get f.cells) (sym number) ∙ (ap (λ cells. slice_get cells (length xs + 0)) split ∙ slice_get-right xs (y ∷ ys ++ zs) 0) in
       let longer : length (xs ++ y ∷ []) ≡ length xs + 1 = length-append xs (y ∷ []) in
-      let P : ℕ → Type 0 = λ n. AllZip (IsReadOf f) ys (cells_from n (length ys)) in
-      (record { home = y; is_home = kept y (0, (omega arith, refl)); at_cell = at },
-      subst P longer (zip_cells (xs ++ y ∷ []) ys zs (split ∙ sym (append_assoc xs (y ∷ []) (ys ++ zs))) (λ e a. kept e (IsAmong-tail y ys e a))))
+      let P : ℕ → Type 0 = λ n. AllZip (IsReadOf f) ys (cells_from n (length ys)) in (
+        record { home = y; is_home = kept y (0, (omega arith, refl)); at_cell = at },
+        subst P longer (zip_cells (xs ++ y ∷ []) ys zs (split ∙ sym (append_assoc xs (y ∷ []) (ys ++ zs))) (λ e a. kept e (IsAmong-tail y ys e a))),
+      )
 
   -- so the main outputs are read from the cells after the main inputs
   pub main_zip : AllZip (IsReadOf f) (main_output_elements f.model) (cells_from (length (main_input_elements f.model)) (length (main_output_elements f.model)))

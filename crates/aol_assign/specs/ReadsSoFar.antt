@@ -1,14 +1,13 @@
 -- The reads of the first instances, and how far these are given.
-use Rattle.std.specs.Prelude.{◌≡◌, ℕ, ◌+◌, ◌<◌, ◌^◌, sum, List, [], ◌∷◌, flat_map, take, length, slice_get, Option, Some, Result, Ok, Err}
+use Rattle.std.specs.Prelude.{◌≡◌, ℕ, ◌<◌, ◌^◌, sum, List, [], ◌∷◌, flat_map, take, length, slice_get, Option, Some, Result, Ok, Err}
 use Rattle.std.specs.List.{enumerate_from}
 use Rattle.aol_model_types.specs.declared.document.Model.{Model}
 use Rattle.aol_model_types.specs.declared.task.Task.{Task}
 use Rattle.aol_model_types.specs.Rules.{inputs_of}
 use Rattle.aol_flat.specs.declared.leaf.LeafKind.{LeafKind}
 use Rattle.aol_flat.specs.declared.leaf.LeafKind.TheVariants as kinds
-use Rattle.aol_flat.specs.Instance.{Instance, leaves, instances, port_sizes, read_sizes}
+use Rattle.aol_flat.specs.Instance.{Instance, instances, port_sizes, read_sizes}
 use Rattle.aol_flat.specs.Laid.{Laid, main_input_elements}
-use Rattle.aol_flat.specs.Leaves.{instances_of}
 use Rattle.aol_flat.specs.Level.{AreWriters}
 use Rattle.aol_flat.specs.Reads.{Reading, instance_readings, IsGiven, AllGiven}
 use Rattle.aol_flat.specs.Targets.{IsSingleAssignment}

@@ -1,7 +1,7 @@
-use Rattle.std.proofs.Common.{◌≡◌, ℕ, ◌<◌, ◌^◌, length, List, Some, slice_get, get_or, sym, ◌∙◌, ap, arith}
+use Rattle.std.proofs.Common.{◌≡◌, ◌<◌, ◌^◌, length, slice_get, get_or, sym, ◌∙◌, ap, arith}
 use Rattle.aol_model_types.specs.declared.document.Model.{Model}
 use Rattle.aol_model_types.specs.Rules.{inputs_of}
-use Rattle.aol_flat.specs.Instance.{Instance, port_sizes, places_of_sizes, read_sizes}
+use Rattle.aol_flat.specs.Instance.{port_sizes, places_of_sizes, read_sizes}
 use Rattle.aol_assign.proofs.LeafNumbers.{sizes_read}
 use Rattle.aol_assign.proofs.reads.read_place.Goals as goal
 

@@ -1,7 +1,6 @@
-use Rattle.std.proofs.Common.{◌≡◌, ℕ, ◌+◌, ◌<◌, ◌≤◌, ◌^◌, [], not, List, length, Option, Some, None, slice_get, sym, ◌∙◌, ap, arith}
+use Rattle.std.proofs.Common.{◌≡◌, ◌<◌, ◌^◌, [], not, length, Some, None, slice_get, sym, ◌∙◌, ap, arith}
 use Rattle.std.specs.Prelude.{sum}
 use Rattle.std.specs.List.{position_from}
-use Rattle.std.proofs.lemmas.Option.{slice_get_within}
 use Rattle.aol_flat.specs.Instance.{port_sizes, places_of_sizes}
 use Rattle.aol_flat.specs.Laid.{main_input_elements, main_output_elements}
 use Rattle.aol_flat.specs.Tasks.{main_outputs}

@@ -1,8 +1,6 @@
-use Rattle.std.proofs.Common.{not, ◌≡◌, ℕ, ◌+◌, ◌<◌, ◌^◌, length, List, Option, Some, slice_get, sym, ◌∙◌, ap, arith, subst}
-use Rattle.std.specs.List.{AllByRecursion, AllZip, sum}
-use Rattle.aol_flat.specs.declared.view.Read.{Read}
-use Rattle.aol_flat.specs.Instance.{Instance, instances, read_elements, read_sizes}
-use Rattle.aol_flat.specs.Laid.{IsReadOf}
+use Rattle.std.proofs.Common.{not, ◌≡◌, ℕ, ◌+◌, ◌<◌, ◌^◌, length, sym, arith, subst}
+use Rattle.std.specs.List.{sum}
+use Rattle.aol_flat.specs.Instance.{instances, read_elements, read_sizes}
 use Rattle.aol_flat.proofs.Alongs.{each_reads}
 use Rattle.aol_assign.specs.Holes.{is_given_by}
 use Rattle.aol_assign.specs.ReadsSoFar.{AreGivenBefore}

@@ -1,4 +1,4 @@
-use Rattle.std.proofs.Common.{◌≡◌, ℕ, ◌+◌, ◌<◌, ◌^◌, length, List, Option, sym, ◌∙◌, ap, arith, subst}
+use Rattle.std.proofs.Common.{◌≡◌, ℕ, ◌+◌, ◌<◌, ◌^◌, length, List, Option, sym, arith, subst}
 use Rattle.aol_flat.specs.Instance.{instances}
 use Rattle.aol_assign.specs.WriterList.{HasWriters}
 use Rattle.aol_assign.proofs.Fitting.{each_among}

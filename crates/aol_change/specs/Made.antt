@@ -1,0 +1,20 @@
+-- What the parts of a step answer.
+use Rattle.std.specs.Prelude.{◌≡◌, Option, Some, None, Result, Ok, Err}
+use Rattle.aol_shape.specs.declared.limit.LimitName.{LimitName}
+use Rattle.aol_model_types.specs.declared.document.Model.{Model}
+use Rattle.aol_change.specs.declared.refused.StepRefused.{StepRefused}
+use Rattle.aol_change.specs.declared.refused.StepRefused.TheVariants.{Limit, NoMemory}
+use Rattle.aol_change.specs.Change.{Stepped, Changed, Refused}
+
+-- what is to be made, where no limit is passed; else that limit; or want of memory
+abbrev pub IsMade : {X : Type 0} → Result X StepRefused → X → Option LimitName → Type 0
+IsMade (Ok x) made limit = (x ≡ made) × (limit ≡ None)
+IsMade (Err (Limit l)) made limit = limit ≡ Some l
+IsMade (Err NoMemory) made limit = Unit {0}
+IsMade (Err _) made limit = ⊥
+
+-- the step's new model, or its first cause, or want of memory
+abbrev pub IsStep : Result Model StepRefused → Stepped → Type 0
+IsStep (Ok m) step = step ≡ Changed m
+IsStep (Err NoMemory) step = Unit {0}
+IsStep (Err cause) step = step ≡ Refused cause

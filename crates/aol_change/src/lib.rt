@@ -1,0 +1,11 @@
+//! What all transformations of a model share: new names, the list of tasks with new ones before the changed one, the
+//! limits of a step, and the map from new instances to old ones.
+//!
+//! Read `specs/Change.antt` first.
+#![tactic(auto)]
+
+mod refused;
+mod remap;
+
+pub use refused::StepRefused;
+pub use remap::Remap;

@@ -1,0 +1,2 @@
+//! Tiling.
+#![tactic(auto)]

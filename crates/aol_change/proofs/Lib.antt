@@ -1,3 +1,5 @@
 pub mod NewNames
 pub mod ChangedTasks
 pub mod KeptTasks
+pub mod Taken
+pub mod Checks

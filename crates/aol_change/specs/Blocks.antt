@@ -1,14 +1,25 @@
 -- A repetition over one block of the space of another, which tiling and skewing make.
-use Rattle.std.specs.Prelude.{ℕ, is_some, List, [], ◌∷◌, ◌++◌, map, filter, Option, unwrap_or, if◌then◌else◌}
+use Rattle.std.specs.Prelude.{ℕ, is_some, List, [], ◌∷◌, ◌++◌, map, filter, Option, option_map, unwrap_or, if◌then◌else◌}
 use Rattle.aol_shape.specs.declared.limit.LimitName.{LimitName}
 use Rattle.aol_tiler.specs.Tiler.{inner_of}
 use Rattle.aol_expr_tree.specs.declared.port.Port.{Port}
 use Rattle.aol_model_types.specs.declared.document.Model.{Model}
 use Rattle.aol_model_types.specs.declared.task.Repeated.{Repeated}
 use Rattle.aol_model_types.specs.declared.task.TilerOn.{TilerOn}
-use Rattle.aol_model_types.specs.Rules.{inputs_named, outputs_named, port_shape}
+use Rattle.aol_model_types.specs.declared.task.Task.{Task}
+use Rattle.aol_model_types.specs.Rules.{inputs_of, outputs_of, inputs_named, outputs_named, port_shape}
 use Rattle.aol_flat.specs.Place.{IntoRepetition}
 use Rattle.aol_change.specs.Change.{StepBack, is_named, joined_limit, new_name, unblocked}
+
+-- ---- ports of a task that may be there
+
+-- the inputs of a task, where it is there
+abbrev pub inputs_in : Option Task → List Port
+inputs_in t = unwrap_or (option_map inputs_of t) []
+
+-- the outputs of a task, where it is there
+abbrev pub outputs_in : Option Task → List Port
+outputs_in t = unwrap_or (option_map outputs_of t) []
 
 -- ---- one block
 

@@ -4,8 +4,12 @@
 //! Read `specs/Change.antt` first.
 #![tactic(auto)]
 
+mod names;
 mod refused;
 mod remap;
+mod tasks;
 
+pub use names::new_name;
 pub use refused::StepRefused;
 pub use remap::Remap;
+pub use tasks::{input_shape, output_shape, port_shape, task_named};

@@ -3,3 +3,5 @@ pub mod ChangedTasks
 pub mod KeptTasks
 pub mod Taken
 pub mod Checks
+pub mod StillThere
+pub mod KindChecks

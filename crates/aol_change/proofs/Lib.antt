@@ -5,3 +5,4 @@ pub mod Taken
 pub mod Checks
 pub mod StillThere
 pub mod KindChecks
+pub mod ChangedChecks

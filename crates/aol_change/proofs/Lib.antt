@@ -6,3 +6,5 @@ pub mod Checks
 pub mod StillThere
 pub mod KindChecks
 pub mod ChangedChecks
+pub mod ChangedRead
+pub mod TilerForms

@@ -8,3 +8,5 @@ pub mod KindChecks
 pub mod ChangedChecks
 pub mod ChangedRead
 pub mod TilerForms
+pub mod Lists
+pub mod Limits

@@ -1,15 +1,18 @@
 -- A repetition over one block of the space of another, which tiling and skewing make.
-use Rattle.std.specs.Prelude.{ℕ, is_some, List, [], ◌∷◌, ◌++◌, map, filter, Option, option_map, unwrap_or, if◌then◌else◌}
+use Rattle.std.specs.Prelude.{ℕ, ◌+◌, ◌≤◌, length, is_some, List, [], ◌∷◌, ◌++◌, map, filter, Option, option_map, unwrap_or, if◌then◌else◌}
 use Rattle.aol_shape.specs.declared.limit.LimitName.{LimitName}
+use Rattle.aol_shape.specs.Lists.{first_some, or_else}
 use Rattle.aol_tiler.specs.Tiler.{inner_of}
 use Rattle.aol_expr_tree.specs.declared.port.Port.{Port}
 use Rattle.aol_model_types.specs.declared.document.Model.{Model}
 use Rattle.aol_model_types.specs.declared.task.Repeated.{Repeated}
 use Rattle.aol_model_types.specs.declared.task.TilerOn.{TilerOn}
 use Rattle.aol_model_types.specs.declared.task.Task.{Task}
-use Rattle.aol_model_types.specs.Rules.{inputs_of, outputs_of, inputs_named, outputs_named, port_shape}
+use Rattle.aol_model_types.specs.Rules.{inputs_of, outputs_of, task_named, port_shape}
 use Rattle.aol_flat.specs.Place.{IntoRepetition}
-use Rattle.aol_change.specs.Change.{StepBack, is_named, joined_limit, new_name, unblocked}
+use Rattle.aol_change.specs.declared.tasks.Side.{Side}
+use Rattle.aol_change.specs.declared.tasks.Side.TheVariants.{Inputs, Outputs}
+use Rattle.aol_change.specs.Change.{StepBack, is_named, joined_limit, ports_limit, new_name, unblocked}
 
 -- ---- ports of a task that may be there
 
@@ -21,51 +24,73 @@ inputs_in t = unwrap_or (option_map inputs_of t) []
 abbrev pub outputs_in : Option Task → List Port
 outputs_in t = unwrap_or (option_map outputs_of t) []
 
+-- its inputs, or its outputs
+abbrev pub ports_on : Side → Option Task → List Port
+ports_on Inputs t = inputs_in t
+ports_on Outputs t = outputs_in t
+
+-- the shape of a port of it
+abbrev pub shape_in : Option Task → List ℕ → List ℕ
+shape_in t name = unwrap_or (port_shape (inputs_in t ++ outputs_in t) name) []
+
 -- ---- one block
 
 -- the tilers on these inner ports, in order
 abbrev pub tilers_on : List Port → List TilerOn → List TilerOn
 tilers_on ports tilers = filter (λ (o : TilerOn). is_some (port_shape ports o.inner)) tilers
 
--- the tilers on inner inputs, in order
-abbrev pub input_tilers : Model → Repeated → List TilerOn
-input_tilers m t = tilers_on (inputs_named m.tasks t.task) t.tilers
-
--- those on inner outputs
-abbrev pub output_tilers : Model → Repeated → List TilerOn
-output_tilers m t = tilers_on (outputs_named m.tasks t.task) t.tilers
-
--- the shape of an inner port
-abbrev pub inner_shape : Model → Repeated → List ℕ → List ℕ
-inner_shape m t name = unwrap_or (port_shape (inputs_named m.tasks t.task ++ outputs_named m.tasks t.task) name) []
-
--- an inner port over the whole block
-abbrev pub block_port : Model → Repeated → List ℕ → List ℕ → Port
-block_port m t block name = record { name = name; shape = block ++ inner_shape m t name }
+-- a port of an inner task over the whole block
+abbrev pub port_over : Option Task → List ℕ → List ℕ → Port
+port_over inner block name = record { name = name; shape = block ++ shape_in inner name }
 
 -- the tiler that leads from it to the inner port of each repetition
-abbrev pub block_tiler : Model → Repeated → List ℕ → List ℕ → TilerOn
-block_tiler m t block name = record { outer = name; inner = name; tiler = inner_of block (inner_shape m t name) }
+abbrev pub tiler_over : Option Task → List ℕ → List ℕ → TilerOn
+tiler_over inner block name = record { outer = name; inner = name; tiler = inner_of block (shape_in inner name) }
+
+-- the ports that these tilers give
+abbrev pub ports_over : Option Task → List ℕ → List TilerOn → List Port
+ports_over inner block tilers = map (λ (o : TilerOn). port_over inner block o.inner) tilers
+
+-- a block and the inner port of a tiler have room in one shape
+abbrev pub HasRoom : Option Task → List ℕ → TilerOn → Type 0
+HasRoom inner block o = length block + length (shape_in inner o.inner) ≤ 12
+
+-- the inner task of a repetition
+abbrev pub inner_task : Model → Repeated → Option Task
+inner_task m t = task_named m.tasks t.task
 
 -- the repetition over one block
 abbrev pub block_task : Model → Repeated → List ℕ → List ℕ → Repeated
-block_task m t block name = record {
-  name = name;
-  ins = map (λ (o : TilerOn). block_port m t block o.inner) (input_tilers m t);
-  outs = map (λ (o : TilerOn). block_port m t block o.inner) (output_tilers m t);
-  space = block;
-  task = t.task;
-  tilers = map (λ (o : TilerOn). block_tiler m t block o.inner) t.tilers;
-  links = [];
-}
+block_task m t block name =
+    let inner = inner_task m t in
+    record {
+      name = name;
+      ins = ports_over inner block (tilers_on (inputs_in inner) t.tilers);
+      outs = ports_over inner block (tilers_on (outputs_in inner) t.tilers);
+      space = block;
+      task = t.task;
+      tilers = map (λ (o : TilerOn). tiler_over inner block o.inner) t.tilers;
+      links = [];
+    }
 
 -- the name of the repetition over one block
 abbrev pub block_name : Model → Repeated → List ℕ
 block_name m t = new_name m [] t.name
 
--- the joined shapes of the ports that these tilers give
-abbrev pub block_limits : Model → Repeated → List ℕ → List TilerOn → List (Option LimitName)
-block_limits m t block tilers = map (λ (o : TilerOn). joined_limit block (inner_shape m t o.inner)) tilers
+-- ---- limits
+
+-- the first limit that the shapes of the ports of these tilers pass
+abbrev pub shapes_limit : Option Task → List ℕ → List TilerOn → Option LimitName
+shapes_limit inner block tilers = first_some (map (λ (o : TilerOn). joined_limit block (shape_in inner o.inner)) tilers)
+
+-- the first limit that the repetition over one block passes: shapes of inputs, shapes of outputs, the number of ports
+abbrev pub block_limit : Model → Repeated → List ℕ → Option LimitName
+block_limit m t block =
+    let inner = inner_task m t in
+    let made = block_task m t block [] in
+    or_else (shapes_limit inner block (tilers_on (inputs_in inner) t.tilers))
+    (or_else (shapes_limit inner block (tilers_on (outputs_in inner) t.tilers))
+    (ports_limit made.ins made.outs))
 
 -- ---- the map
 

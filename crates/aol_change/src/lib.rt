@@ -4,12 +4,17 @@
 //! Read `specs/Change.antt` first.
 #![tactic(auto)]
 
+mod blocks;
+mod laid;
+mod list;
 mod names;
 mod refused;
 mod remap;
 mod tasks;
 
+pub use laid::laid_out;
+pub use list::changed_model;
 pub use names::new_name;
 pub use refused::StepRefused;
 pub use remap::Remap;
-pub use tasks::{input_shape, output_shape, port_shape, task_named};
+pub use tasks::{Side, has_port, input_shape, output_shape, port_shape, task_named};

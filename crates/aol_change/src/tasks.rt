@@ -4,7 +4,7 @@ ghost use Rattle.std.specs.Prelude.{◌≡◌, ◌++◌, [], map, is_some, unwra
 ghost use Rattle.std.specs.Option.{option_copied};
 ghost use Rattle.std.specs.List.{find};
 ghost use Rattle.aol_shape.specs.Lists.{same};
-ghost use Rattle.aol_change.specs.Blocks.{inputs_in, outputs_in};
+ghost use Rattle.aol_change.specs.Blocks.{inputs_in, outputs_in, ports_on};
 ghost use Rattle.aol_model_types.specs.Rules.{task_name, inputs_of, outputs_of, task_named, port_shape};
 
 use aol_expr_tree::Port;
@@ -91,10 +91,27 @@ pub fn output_shape<'a>(task: Option<&'a Task>, port: &Name) -> Option<&'a Shape
     output_of(task?, port)
 }
 
-/// The shape of an input or output of a task, where there are both.
+/// The shape of an input or output of a task, where there are both; else a scalar's.
 #[tactic(auto, using(aol_model_types::proofs::PortNames::port_behind))]
 pub fn port_shape<'a>(task: Option<&'a Task>, port: &Name) -> Option<&'a Shape>
     ensures { option_copied result ≡ port_shape (inputs_in (option_copied task.entry) ++ outputs_in (option_copied task.entry)) port.now }
 {
     input_shape(task, port).or(output_shape(task, port))
+}
+
+/// The inputs or the outputs of a task.
+#[derive(Clone, Copy, Debug, PartialEq, Eq)]
+pub enum Side {
+    Inputs,
+    Outputs,
+}
+
+/// Whether a task is there and has a port of this name on this side.
+pub fn has_port(task: Option<&Task>, side: Side, port: &Name) -> bool
+    ensures { result ≡ is_some (port_shape (ports_on side (option_copied task.entry)) port.now) }
+{
+    match side {
+        Side::Inputs => input_shape(task, port).is_some(),
+        Side::Outputs => output_shape(task, port).is_some(),
+    }
 }

@@ -99,7 +99,7 @@ fn push_ports(
 
 /// The tiler from a port over the block to the inner port.
 fn tiler_over(alloc: Global, inner: Option<&Task>, block: &Shape, name: &Name) -> Result<TilerOn, NoMemory>
-    requires { length block.now + length (shape_in (option_copied inner.entry) name.now) ≤ 12 }
+    requires { length block.now + length (shape_in (option_copied inner) name.now) ≤ 12 }
     ensures { IfOk result (λ o. o ≡ tiler_over (option_copied inner.entry) block.now name.now) }
 {
     let Ok(tiler) = Tiler::inner(alloc, block, &shape_in(alloc, inner, name)) else {
@@ -120,7 +120,7 @@ fn push_tilers(
     tilers: &[TilerOn],
     made: &mut Items<TilerOn>,
 ) -> Result<(), NoMemory>
-    requires { AllByRecursion (HasRoom (option_copied inner.entry) block.now) tilers.now }
+    requires { AllByRecursion (HasRoom (option_copied inner) block.now) tilers.now }
     ensures { OnOk result (made.new ≡ made.old ++ map (λ o. tiler_over (option_copied inner.entry) block.now o.inner) tilers.now) }
 {
     for tiler in tilers {

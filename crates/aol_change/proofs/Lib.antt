@@ -10,3 +10,5 @@ pub mod ChangedRead
 pub mod TilerForms
 pub mod Lists
 pub mod Limits
+pub mod Room
+pub mod BlockMade

@@ -1,5 +1,5 @@
 -- A repetition over one block of the space of another, which tiling and skewing make.
-use Rattle.std.specs.Prelude.{ℕ, ◌+◌, ◌≤◌, length, is_some, List, [], ◌∷◌, ◌++◌, map, filter, Option, option_map, unwrap_or, if◌then◌else◌}
+use Rattle.std.specs.Prelude.{◌≡◌, ℕ, ◌+◌, ◌≤◌, length, is_some, List, [], ◌∷◌, ◌++◌, map, filter, Option, option_map, unwrap_or, if◌then◌else◌}
 use Rattle.aol_shape.specs.declared.limit.LimitName.{LimitName}
 use Rattle.aol_shape.specs.Lists.{first_some, or_else}
 use Rattle.aol_tiler.specs.Tiler.{inner_of}
@@ -59,19 +59,28 @@ HasRoom inner block o = length block + length (shape_in inner o.inner) ≤ 12
 abbrev pub inner_task : Model → Repeated → Option Task
 inner_task m t = task_named m.tasks t.task
 
+-- a repetition has neither ports nor tilers yet
+pub record IsEmptyBlock (t : Repeated) : Type 0 where
+  pub ins : t.ins ≡ []
+  pub outs : t.outs ≡ []
+  pub tilers : t.tilers ≡ []
+
+-- it with the ports and tilers over a block that these tilers of another give
+abbrev pub filled_block : Option Task → List TilerOn → List ℕ → Repeated → Repeated
+filled_block inner tilers block t = record {
+  name = t.name;
+  ins = ports_over inner block (tilers_on (inputs_in inner) tilers);
+  outs = ports_over inner block (tilers_on (outputs_in inner) tilers);
+  space = t.space;
+  task = t.task;
+  tilers = map (λ (o : TilerOn). tiler_over inner block o.inner) tilers;
+  links = t.links;
+}
+
 -- the repetition over one block
 abbrev pub block_task : Model → Repeated → List ℕ → List ℕ → Repeated
 block_task m t block name =
-    let inner = inner_task m t in
-    record {
-      name = name;
-      ins = ports_over inner block (tilers_on (inputs_in inner) t.tilers);
-      outs = ports_over inner block (tilers_on (outputs_in inner) t.tilers);
-      space = block;
-      task = t.task;
-      tilers = map (λ (o : TilerOn). tiler_over inner block o.inner) t.tilers;
-      links = [];
-    }
+    filled_block (inner_task m t) t.tilers block (record { name = name; ins = []; outs = []; space = block; task = t.task; tilers = []; links = [] })
 
 -- the name of the repetition over one block
 abbrev pub block_name : Model → Repeated → List ℕ
@@ -83,14 +92,16 @@ block_name m t = new_name m [] t.name
 abbrev pub shapes_limit : Option Task → List ℕ → List TilerOn → Option LimitName
 shapes_limit inner block tilers = first_some (map (λ (o : TilerOn). joined_limit block (shape_in inner o.inner)) tilers)
 
--- the first limit that the repetition over one block passes: shapes of inputs, shapes of outputs, the number of ports
+-- the first limit that the ports over a block pass: shapes of inputs, shapes of outputs, the number of ports
+abbrev pub tilers_limit : Option Task → List TilerOn → List ℕ → Option LimitName
+tilers_limit inner tilers block =
+    let ins = tilers_on (inputs_in inner) tilers in
+    let outs = tilers_on (outputs_in inner) tilers in
+    or_else (shapes_limit inner block ins) (or_else (shapes_limit inner block outs) (ports_limit (ports_over inner block ins) (ports_over inner block outs)))
+
+-- the first limit that the repetition over one block passes
 abbrev pub block_limit : Model → Repeated → List ℕ → Option LimitName
-block_limit m t block =
-    let inner = inner_task m t in
-    let made = block_task m t block [] in
-    or_else (shapes_limit inner block (tilers_on (inputs_in inner) t.tilers))
-    (or_else (shapes_limit inner block (tilers_on (outputs_in inner) t.tilers))
-    (ports_limit made.ins made.outs))
+block_limit m t block = tilers_limit (inner_task m t) t.tilers block
 
 -- ---- the map
 

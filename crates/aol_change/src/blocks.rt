@@ -5,7 +5,7 @@ ghost use Rattle.std.specs.List.{AllByRecursion};
 ghost use Rattle.std.specs.Option.{option_copied};
 ghost use Rattle.aol_model_types.specs.declared.task.TilerOn.{TilerOn};
 ghost use Rattle.aol_change.specs.Change.{joined_limit};
-ghost use Rattle.aol_change.specs.Blocks.{shape_in, port_over, tiler_over, ports_over, tilers_on, ports_on, shapes_limit, block_task, block_limit, HasRoom};
+ghost use Rattle.aol_change.specs.Blocks.{shape_in, port_over, tiler_over, ports_over, tilers_on, ports_on, shapes_limit, block_task, block_limit, filled_block, tilers_limit, IsEmptyBlock, HasRoom};
 ghost use Rattle.aol_change.specs.Made.{IsWithin};
 
 use crate::refused::StepRefused;
@@ -127,4 +127,57 @@ fn push_tilers(
         made.push(tiler_over(alloc, inner, block, &tiler.inner)?)?;
     }
     Ok(())
+}
+
+/// Gives a repetition over one block its ports and tilers.
+#[tactic(auto, using(crate::proofs::Room::has_room))]
+fn fill_block(
+    alloc: Global,
+    inner: Option<&Task>,
+    tilers: &[TilerOn],
+    block: &Shape,
+    made: &mut Repeated,
+) -> Result<(), StepRefused>
+    requires { IsEmptyBlock made.old }
+    ensures made { OnOk result (made.new ≡ filled_block (option_copied inner.entry) tilers.now block.now made.old) }
+    ensures limit { IsWithin result (tilers_limit (option_copied inner.entry) tilers.now block.now) }
+{
+    push_ports(alloc, inner, Side::Inputs, block, tilers, &mut made.ins)?;
+    push_ports(alloc, inner, Side::Outputs, block, tilers, &mut made.outs)?;
+    if made.ins.len() > MAX_PORTS || made.outs.len() > MAX_PORTS - made.ins.len() {
+        return Err(StepRefused::Limit(LimitName::Ports));
+    }
+    let _entries = block.as_slice();
+    push_tilers(alloc, inner, block, tilers, &mut made.tilers)?;
+    Ok(())
+}
+
+/// The repetition over one block of the space of another, under a name.
+///
+/// It has a port for each tiler of the old one, over the whole block. `Limit` tells `rank` or `points` of a port's
+/// shape, inputs before outputs, and then `ports`.
+pub fn block_task(
+    alloc: Global,
+    model: &Model,
+    task: &Repeated,
+    block: &Shape,
+    name: &Name,
+) -> Result<Repeated, StepRefused>
+    ensures made { IfOk result (λ t. t ≡ block_task model.now task.now block.now name.now) }
+    ensures limit { IsWithin result (block_limit model.now task.now block.now) }
+{
+    let inner = task_named(model.tasks.as_slice(), &task.task);
+    let mut made = Repeated {
+        name: name.copy(alloc)?,
+        ins: Items::new(alloc),
+        outs: Items::new(alloc),
+        space: block.copy(),
+        task: task.task.copy(alloc)?,
+        tilers: Items::new(alloc),
+        links: Items::new(alloc),
+    };
+    match fill_block(alloc, inner, task.tilers.as_slice(), block, &mut made) {
+        Ok(()) => Ok(made),
+        Err(error) => Err(error),
+    }
 }

@@ -12,6 +12,7 @@ mod refused;
 mod remap;
 mod tasks;
 
+pub use blocks::block_task;
 pub use laid::laid_out;
 pub use list::changed_model;
 pub use names::new_name;

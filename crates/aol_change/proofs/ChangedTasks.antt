@@ -5,13 +5,18 @@ use Rattle.aol_model_types.specs.declared.document.Model.{Model}
 use Rattle.aol_model_types.specs.declared.task.Task.{Task}
 use Rattle.aol_model_types.specs.Rules.{task_name}
 use Rattle.aol_flat.specs.Tasks.{is_elementary}
-use Rattle.aol_change.specs.Change.{Changed, within_limits, put_before}
+use Rattle.aol_change.specs.Change.{Stepped, Changed, Refused, within_limits, bounded, model_limit, put_before}
 use Rattle.aol_shape.specs.declared.limit.LimitName.{LimitName}
 
 -- a step that has a result has this one
 pub within_changed : (m next : Model) (limit : Option LimitName) → within_limits m limit ≡ Changed next → next ≡ m
 within_changed m next None h = cc
 within_changed m next (Some limit) h = cc
+
+-- and has it before the limits of the hierarchy are looked at
+pub bounded_changed : (step : Stepped) (next : Model) → bounded step ≡ Changed next → step ≡ Changed next
+bounded_changed (Changed m) next h = ap (λ x. Changed x) (sym (within_changed m next (model_limit m) h))
+bounded_changed (Refused cause) next h = h
 
 -- the elementary tasks stay where the tasks in place of one have none
 pub filter_put : (ts : List Task) (name : List ℕ) (made : List Task) (t changed : Task) → find (λ u. same (task_name u) name) ts ≡ Some t → is_elementary t ≡ false

@@ -18,4 +18,4 @@ pub use list::changed_model;
 pub use names::new_name;
 pub use refused::StepRefused;
 pub use remap::Remap;
-pub use tasks::{Side, has_port, input_shape, output_shape, port_shape, task_named};
+pub use tasks::{Side, has_port, input_shape, output_shape, port_shape, push_copies, task_named};

@@ -1,6 +1,6 @@
 //! Tasks and ports by their names.
 
-ghost use Rattle.std.specs.Prelude.{◌≡◌, ◌++◌, [], map, is_some, unwrap_or, option_map};
+ghost use Rattle.std.specs.Prelude.{◌≡◌, ◌++◌, [], map, is_some, OnOk};
 ghost use Rattle.std.specs.Option.{option_copied};
 ghost use Rattle.std.specs.List.{find};
 ghost use Rattle.aol_shape.specs.Lists.{same};
@@ -9,7 +9,8 @@ ghost use Rattle.aol_model_types.specs.Rules.{task_name, inputs_of, outputs_of, 
 
 use aol_expr_tree::Port;
 use aol_model_types::{OutPort, Task};
-use aol_shape::{Name, Shape, are_same};
+use aol_shape::{Items, Name, NoMemory, Shape, are_same};
+use std::alloc::Global;
 
 /// The name of a task.
 pub fn name_of(task: &Task) -> &Name
@@ -114,4 +115,16 @@ pub fn has_port(task: Option<&Task>, side: Side, port: &Name) -> bool
         Side::Inputs => input_shape(task, port).is_some(),
         Side::Outputs => output_shape(task, port).is_some(),
     }
+}
+
+/// Pushes equal ports.
+pub fn push_copies(alloc: Global, ports: &[Port], copies: &mut Items<Port>) -> Result<(), NoMemory>
+    ensures { OnOk result (copies.new ≡ copies.old ++ ports.now) }
+{
+    for port in ports {
+        let name = port.name.copy(alloc)?;
+        let shape = port.shape.copy();
+        copies.push(Port { name, shape })?;
+    }
+    Ok(())
 }

@@ -1,2 +1,10 @@
-//! Tiling.
+//! Tiling: a repetition becomes a repetition of blocks.
+//!
+//! Read `specs/Tile.antt` first.
 #![tactic(auto)]
+
+mod laws;
+mod model;
+
+pub use laws::tiled_keeps_tasks;
+pub use model::tiled;

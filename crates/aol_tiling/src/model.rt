@@ -120,17 +120,17 @@ fn push_tasks(
     alloc: Global,
     model: &Model,
     task: &Repeated,
-    spaces: (&Shape, &Shape),
+    outer: &Shape,
+    block: &Shape,
     name: &Name,
     put: &mut Items<Task>,
 ) -> Result<(), StepRefused>
     requires sound { IsSound model.now }
     requires found { task_named model.now.tasks task.now.name ≡ Some (tasks.Repeated task.now) }
-    requires rank { have_rank task.now spaces.0.now spaces.1.now ≡ true }
-    ensures made { OnOk result (put.new ≡ put.old ++ tasks.Repeated (blocks_task task.now spaces.0.now spaces.1.now name.now) ∷ tasks.Repeated (block_task model.now task.now spaces.1.now name.now) ∷ []) }
-    ensures limit { IsWithin result (or_else (block_limit model.now task.now spaces.1.now) (outer_limit spaces.1.now task.now.tilers)) }
+    requires rank { have_rank task.now outer.now block.now ≡ true }
+    ensures made { OnOk result (put.new ≡ put.old ++ tasks.Repeated (blocks_task task.now outer.now block.now name.now) ∷ tasks.Repeated (block_task model.now task.now block.now name.now) ∷ []) }
+    ensures limit { IsWithin result (or_else (block_limit model.now task.now block.now) (outer_limit block.now task.now.tilers)) }
 {
-    let (outer, block) = spaces;
     let _entries = block.as_slice();
     let made = block_task(alloc, model, task, block, name)?;
     let changed = blocks_task(alloc, task, outer, block, name)?;
@@ -155,7 +155,7 @@ fn tiled_repeated(
 {
     let name = new_name(alloc, model, &[], &task.name)?;
     let mut put = Items::new(alloc);
-    push_tasks(alloc, model, task, (outer, block), &name, &mut put)?;
+    push_tasks(alloc, model, task, outer, block, &name, &mut put)?;
     let model = changed_model(alloc, model, &task.name, &mut put)?;
     Ok(model)
 }

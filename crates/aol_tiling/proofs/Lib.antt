@@ -1,3 +1,4 @@
 pub mod Kept
 pub mod Old
+pub mod NewBlock
 pub mod Told

@@ -1,4 +1,6 @@
 pub mod Kept
 pub mod Old
 pub mod NewBlock
+pub mod NewBlocks
+pub mod NewNames
 pub mod Told

@@ -256,7 +256,7 @@ module _ (before : List Task) (place : List PlaceStep) (t : Repeated) (holds : H
           let P : Port → Type 0 = λ y. Hold (port_checks front p b y) in
           subst P (sym k.is) (hold-one (to_key p KName) 2 (is_new_port (front ++ b) (port_over inner block k.member.inner)) new)
 
-  shape_of_both : (o : TilerOn) → IsAmong t.tilers o → port_shape (over (inputs_in inner) ++ over (outputs_in inner)) o.inner ≡ Some (block ++ shape_in inner o.inner)
+  pub shape_of_both : (o : TilerOn) → IsAmong t.tilers o → port_shape (over (inputs_in inner) ++ over (outputs_in inner)) o.inner ≡ Some (block ++ shape_in inner o.inner)
   shape_of_both o a = go (sides o a)
     where
       go : JoinsPorts t.ins (inputs_in inner) o ⊎ JoinsPorts t.outs (outputs_in inner) o → port_shape (over (inputs_in inner) ++ over (outputs_in inner)) o.inner ≡ Some (block ++ shape_in inner o.inner)

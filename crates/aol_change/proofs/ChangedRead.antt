@@ -35,7 +35,7 @@ all_put P before rest made t changed h k =
     all-both P (before ++ made) (changed ∷ rest) (all-both P before made old.0 new.0) (new.1.0, old.1.1)
 
 -- the names of some tasks are names
-names_by_task : (ts : List Task) → list_all is_name (flat_map names_in ts) ≡ list_all (λ (t : Task). list_all is_name (names_in t)) ts
+pub names_by_task : (ts : List Task) → list_all is_name (flat_map names_in ts) ≡ list_all (λ (t : Task). list_all is_name (names_in t)) ts
 names_by_task [] = refl
 names_by_task (t ∷ ts) =
     ap (list_all is_name) (flat_map-cons names_in t ts)
@@ -45,7 +45,7 @@ all_names : (ts : List Task) → AllByRecursion (λ (t : Task). list_all is_name
 all_names [] h = refl
 all_names (t ∷ ts) h = both (list_all is_name (names_in t)) (list_all (λ (t : Task). list_all is_name (names_in t)) ts) h.0 (all_names ts h.1)
 
-each_name : (ts : List Task) → list_all (λ (t : Task). list_all is_name (names_in t)) ts ≡ true → AllByRecursion (λ (t : Task). list_all is_name (names_in t) ≡ true) ts
+pub each_name : (ts : List Task) → list_all (λ (t : Task). list_all is_name (names_in t)) ts ≡ true → AllByRecursion (λ (t : Task). list_all is_name (names_in t) ≡ true) ts
 each_name [] h = tt
 each_name (t ∷ ts) h = let parts = both-true (list_all is_name (names_in t)) (list_all (λ (t : Task). list_all is_name (names_in t)) ts) h in (parts.0, each_name ts parts.1)
 

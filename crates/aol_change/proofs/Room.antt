@@ -48,14 +48,18 @@ module _ (inner : Option Task) (block : List ℕ) (is : IsShape block) where
       both_none None (Some y) a b = cc
       both_none (Some x) y a b = cc
 
-  one_room : (ports : List Port) (o : TilerOn) → is_some (port_shape ports o.inner) ≡ true → shapes_limit inner block (tilers_on ports (o ∷ [])) ≡ None → HasRoom inner block o
-  one_room ports o known h =
+  -- the shape of a port over the block passes no limit
+  pub one_joined : (ports : List Port) (o : TilerOn) → is_some (port_shape ports o.inner) ≡ true → shapes_limit inner block (tilers_on ports (o ∷ [])) ≡ None → joined_limit block (shape_in inner o.inner) ≡ None
+  one_joined ports o known h =
       let k : shapes_limit inner block (o ∷ []) ≡ None = sym (ap (λ b. shapes_limit inner block (cond b (o ∷ []) [])) known) ∙ h in
-      (joined_fits block (shape_in inner o.inner) (one (joined_limit block (shape_in inner o.inner)) k)).0
+      one (joined_limit block (shape_in inner o.inner)) k
     where
       one : (y : Option LimitName) → first_some (y ∷ []) ≡ None → y ≡ None
       one None k = refl
       one (Some l) k = cc
+
+  one_room : (ports : List Port) (o : TilerOn) → is_some (port_shape ports o.inner) ≡ true → shapes_limit inner block (tilers_on ports (o ∷ [])) ≡ None → HasRoom inner block o
+  one_room ports o known h = (joined_fits block (shape_in inner o.inner) (one_joined ports o known h)).0
 
   pub has_room : (tilers : List TilerOn) → shapes_limit inner block (tilers_on (inputs_in inner) tilers) ≡ None → shapes_limit inner block (tilers_on (outputs_in inner) tilers) ≡ None
       → AllByRecursion (HasRoom inner block) tilers

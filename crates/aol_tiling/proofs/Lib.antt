@@ -4,4 +4,6 @@ pub mod NewBlock
 pub mod NewBlocks
 pub mod NewNames
 pub mod ReadPorts
+pub mod NewRead
+pub mod Sound
 pub mod Told

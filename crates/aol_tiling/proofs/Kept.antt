@@ -1,5 +1,5 @@
 -- A tiled model keeps the tasks.
-use Rattle.std.proofs.Common.{◌≡◌, ℕ, ◌^◌, ◌<◌, Bool, true, false, ◌||◌, List, [], ◌∷◌, Option, Some, None, if◌then◌else◌, sym, ap, subst, refl, arith}
+use Rattle.std.proofs.Common.{◌≡◌, ℕ, ◌^◌, ◌<◌, Bool, true, false, ◌||◌, List, [], ◌∷◌, Option, Some, None, if◌then◌else◌, sym, ◌∙◌, ap, subst, refl, arith}
 use Rattle.aol_shape.specs.Lists.{same}
 use Rattle.aol_model_types.specs.declared.document.Model.{Model}
 use Rattle.aol_model_types.specs.declared.task.Repeated.{Repeated}
@@ -7,7 +7,7 @@ use Rattle.aol_model_types.specs.declared.task.Task.{Task}
 use Rattle.aol_model_types.specs.declared.task.Task.TheVariants as tasks
 use Rattle.aol_model_types.specs.Rules.{task_named}
 use Rattle.aol_flat.specs.Accept.{IsSound}
-use Rattle.aol_change.specs.Change.{Changed, Refused, within_limits, new_name, has_links, have_rank, KeepsTasks}
+use Rattle.aol_change.specs.Change.{Changed, Refused, bounded, within_limits, new_name, has_links, have_rank, KeepsTasks}
 use Rattle.aol_change.specs.declared.refused.StepRefused.TheVariants.{HasLinks, Rank}
 use Rattle.aol_change.proofs.ChangedTasks.{within_changed, bounded_changed}
 use Rattle.aol_change.proofs.KeptTasks.{apart_from_main, keeps_tasks}
@@ -42,3 +42,10 @@ tiled_keeps_tasks m next name outer block sound h = go (task_named m.tasks name)
     go (Some (tasks.Elementary x)) e k = cc
     go (Some (tasks.Compound c)) e k = cc
     go (Some (tasks.Repeated t)) e k = by_links t e (has_links t) k
+
+-- so does the model that the code lays out
+pub laid_keeps : (m model next laid : Model) (name outer block : List ℕ) → model ≡ m → IsSound m → tiled_task model (task_named model.tasks name) outer block ≡ Changed next → laid ≡ next
+    → bounded (Changed next) ≡ Changed next → KeepsTasks m laid
+laid_keeps m model next laid name outer block same sound step is fits =
+    tiled_keeps_tasks m laid name outer block sound
+    (ap bounded (ap (λ x. tiled_task x (task_named x.tasks name) outer block) (sym same) ∙ step) ∙ (fits ∙ ap (λ x. Changed x) (sym is)))

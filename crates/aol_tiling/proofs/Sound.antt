@@ -6,6 +6,7 @@ use Rattle.aol_model_types.specs.Types.{IsReadTask}
 use Rattle.std.proofs.lemmas.Bool.{eqb-true}
 use Rattle.std.proofs.lemmas.List.{length-append, length-map, append-nil}
 use Rattle.std.proofs.lemmas.List.Folds.{find-append}
+use Rattle.aol_shape.specs.declared.limit.LimitName.{LimitName}
 use Rattle.aol_shape.specs.Lists.{same, or_else}
 use Rattle.aol_shape.specs.Shape.{IsShape}
 use Rattle.aol_shape.specs.Texts.{is_name}
@@ -26,7 +27,7 @@ use Rattle.aol_flat.proofs.Names.{both-true, same-self, same-equal}
 use Rattle.aol_flat.proofs.Among.{map_among}
 use Rattle.aol_flat.proofs.Once.{there, found_among}
 use Rattle.aol_change.specs.Blocks.{inputs_in, outputs_in, inner_task, filled_block, block_task, block_name, block_limit, tilers_limit}
-use Rattle.aol_change.specs.Change.{is_taken, taken_names, new_name, numbered, name_limit, has_links, have_rank}
+use Rattle.aol_change.specs.Change.{Changed, within_limits, is_taken, taken_names, new_name, numbered, name_limit, has_links, have_rank}
 use Rattle.aol_change.specs.Step.{IsChange}
 use Rattle.aol_change.proofs.ChangedChecks.{shapes_changed, HoldInPlace}
 use Rattle.aol_change.proofs.ChangedRead.{read_changed}
@@ -193,3 +194,14 @@ module _ (m : Model) (t : Repeated) (outer block : List ℕ) (sound : IsSound m)
     shapes = shapes_changed m (tasks.Repeated t) (one ∷ []) all found change in_place sound.shapes;
     read = read_changed m (tasks.Repeated t) (one ∷ []) all found both_read few sound.read;
   }
+
+-- so a step that has a model has a sound one
+pub step_sound : (m : Model) (t : Repeated) (outer block : List ℕ) (next : Model) → IsSound m → task_named m.tasks t.name ≡ Some (tasks.Repeated t) → t.links ≡ [] → have_rank t outer block ≡ true → IsShape outer → IsShape block
+    → length m.tasks + 1 < 2 ^ 32 → within_limits (tiled_model m t outer block) (tile_limit m t block) ≡ Changed next → IsSound next
+step_sound m t outer block next sound found plain rank outer_is block_is few h = go (tile_limit m t block) refl h
+  where
+    go : (o : Option LimitName) → tile_limit m t block ≡ o → within_limits (tiled_model m t outer block) o ≡ Changed next → IsSound next
+    go None e k =
+        let is : tiled_model m t outer block ≡ next = cc in
+        subst IsSound is (tiled_sound m t outer block sound found plain rank outer_is block_is e few)
+    go (Some l) e k = cc

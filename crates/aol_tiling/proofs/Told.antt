@@ -1,11 +1,11 @@
 -- What the step answers, by the limits of its parts.
-use Rattle.std.proofs.Common.{◌≡◌, ℕ, List, Option, Some, None, Result, Ok, Err, sym, ◌∙◌, ap, refl}
+use Rattle.std.proofs.Common.{◌≡◌, ℕ, List, Option, Some, None, Result, Ok, Err, ◌⊎◌, inl, inr, sym, ◌∙◌, ap, refl}
 use Rattle.aol_shape.specs.declared.limit.LimitName.{LimitName}
 use Rattle.aol_shape.specs.Lists.{or_else}
 use Rattle.aol_model_types.specs.declared.document.Model.{Model}
 use Rattle.aol_change.specs.declared.refused.StepRefused.{StepRefused}
 use Rattle.aol_change.specs.declared.refused.StepRefused.TheVariants.{Limit, NoMemory, NotRepeated, NotTwoLevels, NotJoined, HasLinks, Rank}
-use Rattle.aol_change.specs.Change.{Stepped, Changed, Refused, within_limits}
+use Rattle.aol_change.specs.Change.{Stepped, Changed, Refused, within_limits, bounded}
 use Rattle.aol_change.specs.Made.{IsMade, IsWithin, IsStep}
 
 -- the first of two limits
@@ -47,3 +47,18 @@ made_within X NotTwoLevels made limit w = w
 made_within X NotJoined made limit w = w
 made_within X HasLinks made limit w = w
 made_within X Rank made limit w = w
+
+-- the cause of a step is that of the step within the limits of the hierarchy
+pub cause_told : (e : StepRefused) (step : Stepped) → IsStep (Err e) step → (e ≡ NoMemory) ⊎ (bounded step ≡ Refused e)
+cause_told (Limit l) step h = inr (ap bounded h)
+cause_told NoMemory step h = inl refl
+cause_told NotRepeated step h = inr (ap bounded h)
+cause_told NotTwoLevels step h = inr (ap bounded h)
+cause_told NotJoined step h = inr (ap bounded h)
+cause_told HasLinks step h = inr (ap bounded h)
+cause_told Rank step h = inr (ap bounded h)
+
+-- the limit of the hierarchy that the new model passes is that of the step
+pub limit_told : (e : StepRefused) (step : Stepped) (next : Model) → step ≡ Changed next → (e ≡ NoMemory) ⊎ (bounded (Changed next) ≡ Refused e) → (e ≡ NoMemory) ⊎ (bounded step ≡ Refused e)
+limit_told e step next h (inl k) = inl k
+limit_told e step next h (inr k) = inr (ap bounded h ∙ k)

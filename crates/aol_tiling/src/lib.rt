@@ -5,6 +5,8 @@
 
 mod laws;
 mod model;
+mod step;
 
 pub use laws::tiled_keeps_tasks;
 pub use model::tiled;
+pub use step::tiled_flat;

@@ -174,8 +174,10 @@ pub fn tiled(
 ) -> Result<Model, StepRefused>
     requires sound { IsSound model.now }
     ensures step { IsStep result (tiled_task model.now (task_named model.now.tasks name.now) outer.now block.now) }
-    ensures count { OnOk result (length model.now.tasks + 1 < 2 ^ 32) }
+    ensures sound { IfOk result (λ m. IsSound m) }
 {
+    let _outer = outer.as_slice();
+    let _block = block.as_slice();
     match task_named(model.tasks.as_slice(), name) {
         Some(Task::Repeated(task)) => {
             if !task.links.is_empty() {
@@ -184,7 +186,10 @@ pub fn tiled(
             if !have_rank(task, outer, block) {
                 return Err(StepRefused::Rank);
             }
-            tiled_repeated(alloc, model, task, outer, block)
+            match tiled_repeated(alloc, model, task, outer, block) {
+                Ok(model) => Ok(model),
+                Err(error) => Err(error),
+            }
         }
         _ => Err(StepRefused::NotRepeated),
     }

@@ -56,37 +56,3 @@ shapes_more inner block ports o os = go (is_some (port_shape ports o.inner))
     go : (b : Bool) → shapes_limit inner block (cond b (o ∷ tilers_on ports os) (tilers_on ports os)) ≡ or_else (shapes_limit inner block (cond b (o ∷ []) [])) (shapes_limit inner block (tilers_on ports os))
     go true = of_one (joined_limit block (shape_in inner o.inner)) (map (λ (o : TilerOn). joined_limit block (shape_in inner o.inner)) (tilers_on ports os))
     go false = refl
-
--- ---- steps of loops
-
-rest_from : {X : Type 0} (xs : List X) (k : ℕ) (x : X) → k < length xs → x ≡ get_or xs k x → drop k xs ≡ x ∷ drop (k + 1) xs
-rest_from xs k x h e = drop-cons xs k x h ∙ (ap (λ y. y ∷ drop (suc k) xs) (sym e) ∙ ap (λ n. x ∷ drop n xs) (sym (add-one k)))
-
-pub ports_step : (inner : Option Task) (block : List ℕ) (ports : List Port) (tilers : List TilerOn) (k : ℕ) (o : TilerOn) (all made made' : List Port) → k < length tilers → o ≡ get_or tilers k o
-    → all ≡ made ++ ports_over inner block (tilers_on ports (drop k tilers)) → made' ≡ made ++ ports_over inner block (tilers_on ports (o ∷ []))
-    → all ≡ made' ++ ports_over inner block (tilers_on ports (drop (k + 1) tilers))
-ports_step inner block ports tilers k o all made made' h is e f =
-    e
-    ∙ (ap (λ os. made ++ ports_over inner block (tilers_on ports os)) (rest_from tilers k o h is)
-    ∙ (ap (λ ps. made ++ ps) (ports_more inner block ports o (drop (k + 1) tilers))
-    ∙ (sym (append_assoc made (ports_over inner block (tilers_on ports (o ∷ []))) (ports_over inner block (tilers_on ports (drop (k + 1) tilers))))
-    ∙ ap (λ ps. ps ++ ports_over inner block (tilers_on ports (drop (k + 1) tilers))) (sym f))))
-
-pub shapes_step : (inner : Option Task) (block : List ℕ) (ports : List Port) (tilers : List TilerOn) (k : ℕ) (o : TilerOn) (all : Option LimitName) → k < length tilers → o ≡ get_or tilers k o
-    → all ≡ shapes_limit inner block (tilers_on ports (drop k tilers)) → all ≡ or_else (shapes_limit inner block (tilers_on ports (o ∷ []))) (shapes_limit inner block (tilers_on ports (drop (k + 1) tilers)))
-shapes_step inner block ports tilers k o all h is e =
-    e ∙ (ap (λ os. shapes_limit inner block (tilers_on ports os)) (rest_from tilers k o h is) ∙ shapes_more inner block ports o (drop (k + 1) tilers))
-
--- a limit that a part passes is that of the whole
-pub stops : (X Y : Type 0) (e : StepRefused) (all first rest : Option LimitName) → all ≡ or_else first rest → IsWithin {X = X} (Err e) first → IsWithin {X = Y} (Err e) all
-stops X Y (Limit l) all first rest h w = h ∙ ap (λ o. or_else o rest) w
-stops X Y NoMemory all first rest h w = tt
-stops X Y NotRepeated all first rest h w = w
-stops X Y NotTwoLevels all first rest h w = w
-stops X Y NotJoined all first rest h w = w
-stops X Y HasLinks all first rest h w = w
-stops X Y Rank all first rest h w = w
-
--- one that it doesn't pass may be passed by the rest
-pub goes_on : (all first rest : Option LimitName) → all ≡ or_else first rest → first ≡ None → all ≡ rest
-goes_on all first rest h e = h ∙ ap (λ o. or_else o rest) e

@@ -6,13 +6,6 @@ use Rattle.aol_change.specs.declared.refused.StepRefused.{StepRefused}
 use Rattle.aol_change.specs.declared.refused.StepRefused.TheVariants.{Limit, NoMemory}
 use Rattle.aol_change.specs.Change.{Stepped, Changed, Refused}
 
--- what is to be made, where no limit is passed; else that limit; or want of memory
-abbrev pub IsMade : {X : Type 0} → Result X StepRefused → X → Option LimitName → Type 0
-IsMade (Ok x) made limit = (x ≡ made) × (limit ≡ None)
-IsMade (Err (Limit l)) made limit = limit ≡ Some l
-IsMade (Err NoMemory) made limit = Unit {0}
-IsMade (Err _) made limit = ⊥
-
 -- no limit is passed; else it is this one; or want of memory
 abbrev pub IsWithin : {X : Type 0} → Result X StepRefused → Option LimitName → Type 0
 IsWithin (Ok x) limit = limit ≡ None

@@ -6,7 +6,7 @@ ghost use Rattle.aol_shape.specs.Lists.{same};
 ghost use Rattle.aol_flat.specs.Accept.{IsSound};
 ghost use Rattle.aol_model_types.specs.Rules.{task_name};
 ghost use Rattle.aol_change.specs.Change.{numbered, is_taken, free_number, new_name, name_limit};
-ghost use Rattle.aol_change.specs.Made.{IsMade};
+ghost use Rattle.aol_change.specs.Made.{IsWithin};
 
 use crate::refused::StepRefused;
 use crate::tasks::name_of;
@@ -73,7 +73,8 @@ pub fn new_name(
 ) -> Result<Name, StepRefused>
     requires sound { IsSound model.now }
     requires few { length others.now < 2 ^ 32 }
-    ensures { IsMade result (new_name model.now others.now name.now) (name_limit (new_name model.now others.now name.now)) }
+    ensures made { IfOk result (λ n. n ≡ new_name model.now others.now name.now) }
+    ensures limit { IsWithin result (name_limit (new_name model.now others.now name.now)) }
 {
     let made = free_name(alloc, model.tasks.as_slice(), others, name)?;
     if made.as_str().len() > MAX_NAME {

@@ -1,6 +1,6 @@
 -- The shapes of a changed model agree, where the rules of the new tasks and of the changed one hold.
-use Rattle.std.proofs.Common.{◌≡◌, ℕ, suc, ◌+◌, Bool, true, false, cond, ◌&&◌, ◌||◌, not, List, [], ◌∷◌, ◌++◌, map, find, Option, Some, None, is_some, is_none, option_map, sym, ◌∙◌, ap, refl, arith, subst}
-use Rattle.std.specs.List.{IsAmong, list_any}
+use Rattle.std.proofs.Common.{◌≡◌, ℕ, suc, ◌+◌, Bool, true, false, cond, ◌||◌, List, [], ◌∷◌, ◌++◌, map, find, Option, Some, None, is_some, is_none, sym, ◌∙◌, ap, refl, arith, subst}
+use Rattle.std.specs.List.{IsAmong}
 use Rattle.std.proofs.lemmas.List.{append_assoc, append-nil}
 use Rattle.aol_shape.specs.Lists.{same}
 use Rattle.aol_model_types.specs.declared.document.Model.{Model}
@@ -14,12 +14,11 @@ use Rattle.aol_flat.proofs.Different.{Hold, hold-parts}
 use Rattle.aol_flat.proofs.Names.{both-true, same-equal}
 use Rattle.aol_flat.proofs.Once.{found_among, there}
 use Rattle.aol_flat.proofs.Sites.{find-passes}
-use Rattle.aol_flat.proofs.Find.{found_name}
 use Rattle.aol_change.specs.Change.{put_before, changed_model, is_taken}
 use Rattle.aol_change.specs.Step.{IsChange}
 use Rattle.aol_change.proofs.Checks.{hold-both}
 use Rattle.aol_change.proofs.KindChecks.{kind_moved, hold-one}
-use Rattle.aol_change.proofs.StillThere.{StayThere, stay_more, stay_changed, not_among}
+use Rattle.aol_change.proofs.StillThere.{StayThere, stay_more, stay_changed}
 
 -- ---- where a task stands
 
@@ -62,9 +61,10 @@ each-split {A = A} f at k earlier [] ys h =
 each-split {A = A} f at k earlier (x ∷ xs) ys h =
     let parts = hold-parts (f (to_index at k) earlier x) (each_from f at (k + 1) (earlier ++ x ∷ []) (xs ++ ys)) h in
     let later = each-split f at (k + 1) (earlier ++ x ∷ []) xs ys parts.1 in
-    let P : List A → Type 0 = λ before. Hold (each_from f at later.1.number before ys) in
-    (hold-both (f (to_index at k) earlier x) (each_from f at (k + 1) (earlier ++ x ∷ []) xs) parts.0 later.0,
-     record { number = later.1.number; holds = subst P (append_assoc earlier (x ∷ []) xs) later.1.holds })
+    let P : List A → Type 0 = λ before. Hold (each_from f at later.1.number before ys) in (
+      hold-both (f (to_index at k) earlier x) (each_from f at (k + 1) (earlier ++ x ∷ []) xs) parts.0 later.0,
+      record { number = later.1.number; holds = subst P (append_assoc earlier (x ∷ []) xs) later.1.holds },
+    )
 
 pub each-join : {A : Type 0} (f : List PlaceStep → List A → A → List Check) (at : List PlaceStep) (k : ℕ) (earlier xs ys : List A)
     → Hold (each_from f at k earlier xs) → ((j : ℕ) → Hold (each_from f at j (earlier ++ xs) ys)) → Hold (each_from f at k earlier (xs ++ ys))
@@ -169,8 +169,8 @@ shapes_changed m t made changed found change inside agree =
     let stay : StayThere (map task_name made) (p.before ++ t ∷ []) (p.before ++ made ++ changed ∷ []) = stay_changed p.before made t changed change.named change.ins change.outs up_to in
     let later : (j : ℕ) → Hold (each_from task_checks at j (p.before ++ (made ++ changed ∷ [])) p.rest) = λ j.
     (let Q : List Task → Type 0 = λ ts. Hold (each_from task_checks at j ts p.rest) in
-        subst Q (append_assoc p.before made (changed ∷ []))
-        (rest_holds (map task_name made) (p.before ++ t ∷ []) (p.before ++ made ++ changed ∷ []) p.rest at at (old.1.number + 1) j (rest_apart p.before p.rest p.split) stay here.1)) in
+    subst Q (append_assoc p.before made (changed ∷ []))
+    (rest_holds (map task_name made) (p.before ++ t ∷ []) (p.before ++ made ++ changed ∷ []) p.rest at at (old.1.number + 1) j (rest_apart p.before p.rest p.split) stay here.1)) in
     let middle : (j : ℕ) → Hold (each_from task_checks at j p.before ((made ++ changed ∷ []) ++ p.rest)) = λ j.
     each-join task_checks at j p.before (made ++ changed ∷ []) p.rest (inside p.before p.rest (to_index at old.1.number) at j p.split own.0 own.1) later in
     let new_list : put_before m.tasks (task_name t) made changed ≡ p.before ++ ((made ++ changed ∷ []) ++ p.rest) =

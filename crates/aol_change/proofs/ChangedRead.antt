@@ -1,15 +1,14 @@
 -- A changed model is as one that was read, where its new tasks are.
-use Rattle.std.proofs.Common.{◌≡◌, ℕ, ◌+◌, ◌^◌, ◌<◌, ◌≤◌, Bool, true, false, cond, ◌&&◌, List, [], ◌∷◌, ◌++◌, length, map, Some, sym, ◌∙◌, ap, refl, arith, subst}
+use Rattle.std.proofs.Common.{◌≡◌, ◌+◌, ◌^◌, ◌<◌, true, ◌&&◌, List, [], ◌∷◌, ◌++◌, length, Some, sym, ◌∙◌, ap, refl, arith, subst}
 use Rattle.std.specs.List.{AllByRecursion, list_all, flat_map}
-use Rattle.std.proofs.lemmas.List.{length-append, append_assoc}
+use Rattle.std.proofs.lemmas.List.{length-append}
 use Rattle.std.proofs.lemmas.List.Folds.{list_all-append}
 use Rattle.std.proofs.lemmas.List.Concat.{flat_map-cons}
-use Rattle.std.proofs.lemmas.Grind.{flat_map-append}
 use Rattle.aol_shape.specs.Texts.{is_name}
 use Rattle.aol_model_types.specs.declared.document.Model.{Model}
 use Rattle.aol_model_types.specs.declared.task.Task.{Task}
 use Rattle.aol_model_types.specs.Rules.{task_name, task_named}
-use Rattle.aol_model_types.specs.Types.{IsTask, IsReadTask, IsReadModel, HasOutput, HasNames, names_in}
+use Rattle.aol_model_types.specs.Types.{IsTask, IsReadTask, IsReadModel, HasOutput, names_in}
 use Rattle.aol_flat.proofs.Names.{both-true}
 use Rattle.aol_flat.proofs.Truth.{both}
 use Rattle.aol_change.specs.Change.{changed_model, put_before}

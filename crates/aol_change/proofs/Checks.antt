@@ -1,11 +1,11 @@
 -- Checks of the members of a list, and of lists of checks.
-use Rattle.std.proofs.Common.{◌≡◌, ℕ, suc, ◌+◌, Bool, true, false, ◌&&◌, List, [], ◌∷◌, ◌++◌, map, sym, ◌∙◌, ap, refl, arith, subst}
+use Rattle.std.proofs.Common.{◌≡◌, ℕ, suc, ◌+◌, List, [], ◌∷◌, ◌++◌, map, sym, ◌∙◌, ap, refl, arith, subst}
 use Rattle.std.specs.List.{IsAmong, list_all}
 use Rattle.std.proofs.lemmas.List.{append_assoc, append-nil, map-append}
 use Rattle.std.proofs.lemmas.List.Folds.{list_all-append}
 use Rattle.aol_model_types.specs.declared.place.PlaceStep.{PlaceStep}
 use Rattle.aol_model_types.specs.Places.{to_index}
-use Rattle.aol_model_types.specs.Rules.{Check, each, each_from}
+use Rattle.aol_model_types.specs.Rules.{Check, each_from}
 use Rattle.aol_flat.proofs.Different.{Hold, hold-parts}
 use Rattle.aol_flat.proofs.Truth.{both}
 
@@ -52,5 +52,5 @@ each-all {A = A} g at k earlier (x ∷ xs) all =
     (subst P (append-nil earlier) (all (to_index at k) [] xs x refl))
     (each-all g at (k + 1) (earlier ++ x ∷ []) xs
     (λ p before rest y e.
-        let Q : List A → Type 0 = λ b. Hold (g p b y) in
-        subst Q (sym (append_assoc earlier (x ∷ []) before)) (all p (x ∷ before) rest y (ap (λ ys. x ∷ ys) e))))
+    let Q : List A → Type 0 = λ b. Hold (g p b y) in
+    subst Q (sym (append_assoc earlier (x ∷ []) before)) (all p (x ∷ before) rest y (ap (λ ys. x ∷ ys) e))))

@@ -1,5 +1,5 @@
 -- The rules of a task hold wherever the tasks that it is made of are still there.
-use Rattle.std.proofs.Common.{◌≡◌, ℕ, Bool, true, false, not, ◌&&◌, ◌||◌, List, [], ◌∷◌, ◌++◌, length, Option, Some, None, is_some, is_none, option_and_then, find, sym, ◌∙◌, ap, refl, subst}
+use Rattle.std.proofs.Common.{◌≡◌, ℕ, Bool, true, not, ◌&&◌, ◌||◌, List, [], ◌∷◌, ◌++◌, Option, Some, None, is_some, is_none, option_and_then, find, sym, ◌∙◌, ap, refl, subst}
 use Rattle.std.specs.List.{IsAmong, list_all, list_any}
 use Rattle.aol_shape.specs.Lists.{same}
 use Rattle.aol_expr_tree.specs.declared.port.Port.{Port}
@@ -11,8 +11,6 @@ use Rattle.aol_model_types.specs.declared.place.Key.TheVariants.{KIn, KOut, KPar
 use Rattle.aol_model_types.specs.declared.place.PlaceStep.{PlaceStep}
 use Rattle.aol_model_types.specs.declared.task.Compound.{Compound}
 use Rattle.aol_model_types.specs.declared.task.Copied.{Copied}
-use Rattle.aol_model_types.specs.declared.task.Elementary.{Elementary}
-use Rattle.aol_model_types.specs.declared.task.Hook.{Hook}
 use Rattle.aol_model_types.specs.declared.task.Part.{Part}
 use Rattle.aol_model_types.specs.declared.task.Plain.{Plain}
 use Rattle.aol_model_types.specs.declared.task.Repeated.{Repeated}
@@ -20,7 +18,7 @@ use Rattle.aol_model_types.specs.declared.task.Task.{Task}
 use Rattle.aol_model_types.specs.declared.task.Task.TheVariants as tasks
 use Rattle.aol_model_types.specs.declared.task.TilerOn.{TilerOn}
 use Rattle.aol_model_types.specs.Places.{to_key}
-use Rattle.aol_model_types.specs.Rules.{Check, check, each, kind_checks, compound_checks, repeated_checks, elementary_checks, port_checks, output_checks, part_checks, plain_checks, copied_checks, tiler_checks, interlink_checks, part_is_fed, is_fed, is_earlier_task, is_new_part, meets_part, hands_up_once, same_shapes, fits_in, from_shape, to_shape, part_named, port_shape, inputs_named, outputs_named, task_named, all_inner_fed, inner_is_fed, tiles_output_once, fallback_fits, spans_space, has_last_resort, has_dimensions}
+use Rattle.aol_model_types.specs.Rules.{Check, check, each, kind_checks, compound_checks, repeated_checks, port_checks, output_checks, part_checks, plain_checks, copied_checks, tiler_checks, interlink_checks, is_fed, is_earlier_task, is_new_part, meets_part, hands_up_once, same_shapes, fits_in, from_shape, to_shape, port_shape, inputs_named, outputs_named, all_inner_fed, inner_is_fed, fallback_fits, spans_space, has_last_resort, has_dimensions}
 use Rattle.aol_flat.proofs.Checked.{member, HoldsOfCompound, of_compound, HoldsOfRepeated, of_repeated, fed_checks, output_fed_checks, tiled_checks}
 use Rattle.aol_flat.proofs.Different.{Hold, hold-parts}
 use Rattle.aol_flat.proofs.Names.{both-true}
@@ -122,14 +120,14 @@ module _ (new : List (List ℕ)) (ts us : List Task) (stay : StayThere new ts us
       (both-true (is_earlier_task ts p.task) true (both-true (is_new_part r.before p) _ r.holds).1).0 in
       to_compound us at' c
       (record {
-          ins = each-moved (port_checks []) (port_checks []) (to_key at KIn) (to_key at' KIn) 0 0 [] c.ins (λ p q before x a k. k) all.ins;
-          outs = each-moved (port_checks c.ins) (port_checks c.ins) (to_key at KOut) (to_key at' KOut) 0 0 [] c.outs (λ p q before x a k. k) all.outs;
-          parts = each-moved (part_checks ts) (part_checks us) (to_key at KParts) (to_key at' KParts) 0 0 [] c.parts (part_moved c earlier) all.parts;
-          links = each-moved (plain_checks ts c) (plain_checks us c) (to_key at KLinks) (to_key at' KLinks) 0 0 [] c.links (plain_moved c earlier) all.links;
-          reshapes = each-moved (copied_checks ts c) (copied_checks us c) (to_key at KReshapes) (to_key at' KReshapes) 0 0 [] c.reshapes (copied_moved c earlier) all.reshapes;
-          fed = each-moved (fed_checks ts c) (fed_checks us c) (to_key at KParts) (to_key at' KParts) 0 0 [] c.parts (fed_moved c earlier) all.fed;
-          outs_fed = each-moved (output_fed_checks c) (output_fed_checks c) (to_key at KOut) (to_key at' KOut) 0 0 [] c.outs (λ p q before x a k. k) all.outs_fed;
-        })
+        ins = each-moved (port_checks []) (port_checks []) (to_key at KIn) (to_key at' KIn) 0 0 [] c.ins (λ p q before x a k. k) all.ins;
+        outs = each-moved (port_checks c.ins) (port_checks c.ins) (to_key at KOut) (to_key at' KOut) 0 0 [] c.outs (λ p q before x a k. k) all.outs;
+        parts = each-moved (part_checks ts) (part_checks us) (to_key at KParts) (to_key at' KParts) 0 0 [] c.parts (part_moved c earlier) all.parts;
+        links = each-moved (plain_checks ts c) (plain_checks us c) (to_key at KLinks) (to_key at' KLinks) 0 0 [] c.links (plain_moved c earlier) all.links;
+        reshapes = each-moved (copied_checks ts c) (copied_checks us c) (to_key at KReshapes) (to_key at' KReshapes) 0 0 [] c.reshapes (copied_moved c earlier) all.reshapes;
+        fed = each-moved (fed_checks ts c) (fed_checks us c) (to_key at KParts) (to_key at' KParts) 0 0 [] c.parts (fed_moved c earlier) all.fed;
+        outs_fed = each-moved (output_fed_checks c) (output_fed_checks c) (to_key at KOut) (to_key at' KOut) 0 0 [] c.outs (λ p q before x a k. k) all.outs_fed;
+      })
 
   -- ---- repetitions
 
@@ -140,14 +138,14 @@ module _ (new : List (List ℕ)) (ts us : List Task) (stay : StayThere new ts us
       let outs : outputs_named us r.task ≡ outputs_named ts r.task = (stay r.task).outs all.inner in
       to_repeated us at' r
       (record {
-          ins = each-moved (port_checks []) (port_checks []) (to_key at KIn) (to_key at' KIn) 0 0 [] r.ins (λ p q before x a k. k) all.ins;
-          outs = each-moved (port_checks r.ins) (port_checks r.ins) (to_key at KOut) (to_key at' KOut) 0 0 [] r.outs (λ p q before x a k. k) all.outs;
-          inner = (stay r.task).there all.inner;
-          tilers = each-moved (tiler_checks ts r) (tiler_checks us r) (to_key at KTilers) (to_key at' KTilers) 0 0 [] r.tilers (tiler_moved ins outs) all.tilers;
-          links = each-moved (interlink_checks ts r) (interlink_checks us r) (to_key at KLinks) (to_key at' KLinks) 0 0 [] r.links (link_moved ins outs) all.links;
-          fed = ap (list_all (inner_is_fed r)) ins ∙ all.fed;
-          tiled = each-moved (tiled_checks r) (tiled_checks r) (to_key at KOut) (to_key at' KOut) 0 0 [] r.outs (λ p q before x a k. k) all.tiled;
-        })
+        ins = each-moved (port_checks []) (port_checks []) (to_key at KIn) (to_key at' KIn) 0 0 [] r.ins (λ p q before x a k. k) all.ins;
+        outs = each-moved (port_checks r.ins) (port_checks r.ins) (to_key at KOut) (to_key at' KOut) 0 0 [] r.outs (λ p q before x a k. k) all.outs;
+        inner = (stay r.task).there all.inner;
+        tilers = each-moved (tiler_checks ts r) (tiler_checks us r) (to_key at KTilers) (to_key at' KTilers) 0 0 [] r.tilers (tiler_moved ins outs) all.tilers;
+        links = each-moved (interlink_checks ts r) (interlink_checks us r) (to_key at KLinks) (to_key at' KLinks) 0 0 [] r.links (link_moved ins outs) all.links;
+        fed = ap (list_all (inner_is_fed r)) ins ∙ all.fed;
+        tiled = each-moved (tiled_checks r) (tiled_checks r) (to_key at KOut) (to_key at' KOut) 0 0 [] r.outs (λ p q before x a k. k) all.tiled;
+      })
     where
       tiler_moved : inputs_named us r.task ≡ inputs_named ts r.task → outputs_named us r.task ≡ outputs_named ts r.task
           → (p q : List PlaceStep) (before : List TilerOn) (o : TilerOn) → IsAmong r.tilers o → Hold (tiler_checks ts r p before o) → Hold (tiler_checks us r q before o)

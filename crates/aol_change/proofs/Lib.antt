@@ -12,3 +12,4 @@ pub mod Lists
 pub mod Limits
 pub mod Room
 pub mod BlockMade
+pub mod Sample

@@ -1,18 +1,12 @@
 -- Limits that code tells, and lists that it makes member by member.
-use Rattle.std.proofs.Common.{◌≡◌, ℕ, ◌+◌, ◌≤◌, ◌<◌, Bool, true, false, cond, List, [], ◌∷◌, ◌++◌, suc, length, drop, get_or, add-one, map, filter, nat_lt, Option, Some, None, is_some, Ok, Err, sym, ◌∙◌, ap, refl, arith}
-use Rattle.std.specs.List.{AllByRecursion}
-use Rattle.std.proofs.Math.Seq.{drop-cons}
-use Rattle.std.proofs.lemmas.List.{append_assoc}
-use Rattle.aol_change.specs.declared.refused.StepRefused.{StepRefused}
-use Rattle.aol_change.specs.declared.refused.StepRefused.TheVariants.{Limit, NoMemory, NotRepeated, NotTwoLevels, NotJoined, HasLinks, Rank}
-use Rattle.aol_change.specs.Made.{IsWithin}
+use Rattle.std.proofs.Common.{◌≡◌, ℕ, ◌≤◌, Bool, true, false, cond, List, [], ◌∷◌, ◌++◌, length, map, nat_lt, Option, Some, None, is_some, Ok, Err, ◌∙◌, ap, refl}
 use Rattle.std.proofs.lemmas.Bool.{lt-ltb, le-ltb}
 use Rattle.aol_shape.specs.declared.limit.LimitName.{LimitName}
 use Rattle.aol_shape.specs.declared.limit.LimitName.TheVariants as limits
 use Rattle.aol_shape.specs.declared.shape.ShapeRefused.TheVariants as refused
 use Rattle.aol_shape.specs.Joined.{Joins}
 use Rattle.aol_shape.specs.Lists.{first_some, or_else}
-use Rattle.aol_shape.specs.Shape.{IsShape, IsEntry, size, max_rank, max_points}
+use Rattle.aol_shape.specs.Shape.{size, max_rank, max_points}
 use Rattle.aol_expr_tree.specs.declared.port.Port.{Port}
 use Rattle.aol_model_types.specs.declared.task.Task.{Task}
 use Rattle.aol_model_types.specs.declared.task.TilerOn.{TilerOn}

@@ -1,5 +1,5 @@
 -- The list of tasks as the code changes it, and limits that are told.
-use Rattle.std.proofs.Common.{◌≡◌, ℕ, suc, ◌+◌, ◌-◌, ◌≤◌, ◌<◌, Bool, true, false, cond, not, List, [], ◌∷◌, ◌++◌, length, reverse, nat_lt, ◌⊎◌, inl, inr, append-nil, Option, Some, None, option_map, sym, ◌∙◌, ap, refl, arith}
+use Rattle.std.proofs.Common.{◌≡◌, ℕ, suc, ◌+◌, ◌≤◌, ◌<◌, Bool, true, false, cond, not, List, [], ◌∷◌, ◌++◌, length, reverse, nat_lt, inl, inr, append-nil, Some, None, option_map, sym, ◌∙◌, ap, refl, arith}
 use Rattle.std.specs.List.{position, position_or_len}
 use Rattle.std.proofs.lemmas.Bool.{ltb-true, ltb-false}
 use Rattle.std.proofs.lemmas.List.{append_assoc, length-append, reverse-append, reverse-reverse}
@@ -8,7 +8,6 @@ use Rattle.aol_shape.specs.Lists.{same}
 use Rattle.aol_model_types.specs.declared.document.Model.{Model}
 use Rattle.aol_model_types.specs.declared.task.Task.{Task}
 use Rattle.aol_model_types.specs.Rules.{task_name}
-use Rattle.aol_flat.specs.Limits.{first_limit}
 use Rattle.aol_flat.specs.Tables.{IsFirstLimit}
 use Rattle.aol_change.specs.declared.refused.StepRefused.TheVariants.{Limit}
 use Rattle.aol_change.specs.Made.{MatchesLast}

@@ -1,12 +1,10 @@
 -- A list of tasks in which the tasks of another are still there, with their ports, among new ones.
-use Rattle.std.proofs.Common.{◌≡◌, ℕ, Bool, true, false, cond, ◌||◌, List, [], ◌∷◌, ◌++◌, map, find, Option, Some, None, is_some, is_none, option_map, unwrap_or, sym, ◌∙◌, ap, refl, subst}
+use Rattle.std.proofs.Common.{◌≡◌, ℕ, Bool, true, false, cond, ◌||◌, List, [], ◌∷◌, ◌++◌, map, find, Option, Some, None, is_some, sym, ◌∙◌, ap, refl, subst}
 use Rattle.std.specs.Option.{option_or}
-use Rattle.std.specs.List.{list_any}
 use Rattle.std.proofs.lemmas.List.Folds.{find-append}
 use Rattle.aol_shape.specs.Lists.{same}
-use Rattle.aol_expr_tree.specs.declared.port.Port.{Port}
 use Rattle.aol_model_types.specs.declared.task.Task.{Task}
-use Rattle.aol_model_types.specs.Rules.{task_name, task_named, inputs_of, outputs_of, inputs_named, outputs_named, is_earlier_task}
+use Rattle.aol_model_types.specs.Rules.{task_name, task_named, inputs_of, outputs_of, is_earlier_task}
 use Rattle.aol_flat.proofs.Names.{same-equal}
 use Rattle.aol_change.specs.Change.{is_taken}
 use Rattle.aol_change.specs.Blocks.{inputs_in, outputs_in}

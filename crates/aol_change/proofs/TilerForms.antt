@@ -1,5 +1,5 @@
 -- Tilers that are made fit where they are put.
-use Rattle.std.proofs.Common.{◌≡◌, ℕ, suc, ◌+◌, ◌≤◌, Bool, true, false, ◌&&◌, ◌==◌, nat_le, cond, ℤ, pos, List, [], ◌∷◌, ◌++◌, length, replicate, Option, Some, None, sym, ◌∙◌, ap, refl, arith, subst}
+use Rattle.std.proofs.Common.{◌≡◌, ℕ, suc, ◌+◌, ◌≤◌, Bool, true, false, ◌&&◌, ◌==◌, nat_le, cond, ℤ, pos, List, [], ◌∷◌, ◌++◌, length, Some, None, ◌∙◌, ap, refl, arith}
 use Rattle.std.specs.Prelude.{nat_abs}
 use Rattle.std.specs.List.{AllByRecursion, list_all}
 use Rattle.std.proofs.lemmas.Bool.{eqb-true, eq-eqb, leb-true}
@@ -7,9 +7,9 @@ use Rattle.std.proofs.lemmas.List.{length-append}
 use Rattle.std.proofs.lemmas.List.Folds.{list_all-append}
 use Rattle.aol_shape.specs.Vectors.{IsVector, IsVectorEntry, times, zeros, max_entry}
 use Rattle.aol_tiler.specs.Matrices.{TilerOf}
-use Rattle.aol_tiler.specs.Tiler.{IsTiler, has_entries, is_over, fits, scaled, blocked, unit_columns, inner_of, flat, first_out_of, first_entry_out}
+use Rattle.aol_tiler.specs.Tiler.{IsTiler, is_over, fits, scaled, blocked, unit_columns, inner_of, flat, first_out_of, first_entry_out}
 use Rattle.aol_tiler.proofs.Entries.{length-times}
-use Rattle.aol_tiler.proofs.Extends.{first_out_of-right, length_scaled}
+use Rattle.aol_tiler.proofs.Extends.{length_scaled}
 use Rattle.aol_tiler.proofs.UnitColumns.{inner_made}
 use Rattle.aol_flat.proofs.Names.{both-true}
 use Rattle.aol_flat.proofs.Truth.{both}
@@ -69,12 +69,12 @@ inner_fits block pattern =
     let both_long : length (block ++ pattern) ≡ length block + length pattern = length-append block pattern in
     by_fits (inner_of block pattern) (block ++ pattern) block pattern
     (record {
-        origin = omega (arith, both_long, length-append (zeros block) (zeros pattern), length-zeros block, length-zeros pattern);
-        in_paving = units_even [] block (zeros pattern) (length (block ++ pattern)) (omega (arith, both_long, length-zeros pattern));
-        in_fitting = units_even (zeros block) pattern [] (length (block ++ pattern)) (omega (arith, both_long, length-zeros block));
-        paving = units_count [] block (zeros pattern);
-        fitting = units_count (zeros block) pattern [];
-      })
+      origin = omega (arith, both_long, length-append (zeros block) (zeros pattern), length-zeros block, length-zeros pattern);
+      in_paving = units_even [] block (zeros pattern) (length (block ++ pattern)) (omega (arith, both_long, length-zeros pattern));
+      in_fitting = units_even (zeros block) pattern [] (length (block ++ pattern)) (omega (arith, both_long, length-zeros block));
+      paving = units_count [] block (zeros pattern);
+      fitting = units_count (zeros block) pattern [];
+    })
 
 -- it is within the limits, where both shapes have room in one
 pub inner_is_tiler : (block pattern : List ℕ) → length block + length pattern ≤ 12 → IsTiler (inner_of block pattern)
@@ -95,12 +95,12 @@ blocked_fits t array space outer block pattern h outer_rank block_rank =
     let f = fits_by t array space pattern h in
     by_fits (blocked t block) array outer (block ++ pattern)
     (record {
-        origin = f.origin;
-        in_paving = scaled_even t.paving block (length array) f.in_paving;
-        in_fitting = list_all-append (λ c. length c == length array) t.paving t.fitting ∙ both (list_all (λ c. length c == length array) t.paving) (list_all (λ c. length c == length array) t.fitting) f.in_paving f.in_fitting;
-        paving = omega (arith, length_scaled t.paving block, f.paving, outer_rank);
-        fitting = omega (arith, length-append t.paving t.fitting, length-append block pattern, f.paving, f.fitting, block_rank);
-      })
+      origin = f.origin;
+      in_paving = scaled_even t.paving block (length array) f.in_paving;
+      in_fitting = list_all-append (λ c. length c == length array) t.paving t.fitting ∙ both (list_all (λ c. length c == length array) t.paving) (list_all (λ c. length c == length array) t.fitting) f.in_paving f.in_fitting;
+      paving = omega (arith, length_scaled t.paving block, f.paving, outer_rank);
+      fitting = omega (arith, length-append t.paving t.fitting, length-append block pattern, f.paving, f.fitting, block_rank);
+    })
 
 -- entries of which none is out of range
 none_out-all : (k : ℕ) (zs : List ℤ) → first_out_of k zs ≡ None → AllByRecursion IsVectorEntry zs

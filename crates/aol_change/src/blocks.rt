@@ -51,7 +51,12 @@ fn joined_shape(block: &Shape, shape: &Shape) -> Result<Shape, StepRefused>
 }
 
 /// A port of the inner task over the whole block.
-fn port_over(alloc: Global, inner: Option<&Task>, block: &Shape, name: &Name) -> Result<Port, StepRefused>
+fn port_over(
+    alloc: Global,
+    inner: Option<&Task>,
+    block: &Shape,
+    name: &Name,
+) -> Result<Port, StepRefused>
     ensures made { IfOk result (λ p. p ≡ port_over (option_copied inner.entry) block.now name.now) }
     ensures limit { IsWithin result (joined_limit block.now (shape_in (option_copied inner.entry) name.now)) }
 {
@@ -98,7 +103,12 @@ fn push_ports(
 }
 
 /// The tiler from a port over the block to the inner port.
-fn tiler_over(alloc: Global, inner: Option<&Task>, block: &Shape, name: &Name) -> Result<TilerOn, NoMemory>
+fn tiler_over(
+    alloc: Global,
+    inner: Option<&Task>,
+    block: &Shape,
+    name: &Name,
+) -> Result<TilerOn, NoMemory>
     requires { length block.now + length (shape_in (option_copied inner) name.now) ≤ 12 }
     ensures { IfOk result (λ o. o ≡ tiler_over (option_copied inner.entry) block.now name.now) }
 {

@@ -47,9 +47,7 @@ fn drop_last(tasks: &mut Items<Task>)
 fn place_of(tasks: &[Task], name: &Name) -> Option<usize>
     ensures { result ≡ position (λ t. same (task_name t) name.now) tasks.now }
 {
-    tasks
-        .iter()
-        .position(|task| are_same(name_of(task), name))
+    tasks.iter().position(|task| are_same(name_of(task), name))
 }
 
 /// The first task with this name gives way to the tasks of `put`, of which the last one comes first.

@@ -7,3 +7,5 @@ pub mod ReadPorts
 pub mod NewRead
 pub mod Sound
 pub mod Told
+mod Sample
+mod Examples

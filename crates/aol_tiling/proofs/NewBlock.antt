@@ -1,20 +1,19 @@
 -- The rules of the repetition over one block hold.
-use Rattle.std.proofs.Common.{◌≡◌, ℕ, zero, suc, ◌+◌, ◌≤◌, Bool, true, false, cond, not, ◌&&◌, ◌||◌, ◌==◌, List, [], ◌∷◌, ◌++◌, length, map, filter, find, Option, Some, None, is_some, is_none, option_map, unwrap_or, sym, ◌∙◌, ap, refl, arith, subst, ◌⊎◌, inl, inr}
+use Rattle.std.proofs.Common.{◌≡◌, ℕ, zero, suc, ◌+◌, ◌≤◌, Bool, true, false, cond, not, ◌&&◌, ◌||◌, ◌==◌, List, [], ◌∷◌, ◌++◌, map, filter, find, Option, Some, None, is_some, is_none, option_map, sym, ◌∙◌, ap, refl, arith, subst, ◌⊎◌, inl, inr}
 use Rattle.std.specs.List.{IsAmong, list_all, list_any, count_by}
-use Rattle.std.proofs.lemmas.Bool.{eqb-true, eq-eqb}
-use Rattle.std.proofs.lemmas.List.{append-nil}
+use Rattle.std.proofs.lemmas.Bool.{eqb-true}
 use Rattle.std.proofs.lemmas.List.Sums.{sum_by-cons, sum_by-append}
 use Rattle.aol_shape.specs.Lists.{same}
 use Rattle.aol_tiler.specs.Tiler.{inner_of}
 use Rattle.aol_expr_tree.specs.declared.port.Port.{Port}
 use Rattle.aol_link.specs.declared.link.Interlink.{Interlink}
-use Rattle.aol_model_types.specs.declared.place.Key.TheVariants.{KIn, KOut, KTilers, KTiler, KLinks, KName}
+use Rattle.aol_model_types.specs.declared.place.Key.TheVariants.{KIn, KOut, KTilers, KName}
 use Rattle.aol_model_types.specs.declared.place.PlaceStep.{PlaceStep}
 use Rattle.aol_model_types.specs.declared.task.Repeated.{Repeated}
 use Rattle.aol_model_types.specs.declared.task.Task.{Task}
 use Rattle.aol_model_types.specs.declared.task.TilerOn.{TilerOn}
 use Rattle.aol_model_types.specs.Places.{to_key, to_index}
-use Rattle.aol_model_types.specs.Rules.{Check, check, each, each_from, task_named, port_shape, port_checks, tiler_checks, is_on_ports, tiles_output_once, tiler_fits, fits_in, inner_is_fed, all_inner_fed, is_tiled, is_new_port}
+use Rattle.aol_model_types.specs.Rules.{Check, each, each_from, task_named, port_shape, port_checks, tiler_checks, is_on_ports, tiles_output_once, tiler_fits, fits_in, inner_is_fed, all_inner_fed, is_tiled, is_new_port}
 use Rattle.aol_model_types.proofs.PortNames.{new_behind}
 use Rattle.aol_flat.proofs.Checked.{HoldsOfRepeated, named_port, tiled_checks}
 use Rattle.aol_flat.proofs.Different.{Hold, hold-parts}
@@ -22,14 +21,14 @@ use Rattle.aol_flat.proofs.Inside.{among_right}
 use Rattle.aol_flat.proofs.Names.{both-true, same-self, same-equal}
 use Rattle.aol_flat.proofs.Once.{all_at, counted}
 use Rattle.aol_flat.proofs.Shapes.{shape_left, shape_right}
-use Rattle.aol_flat.proofs.TilerRules.{IsTiling, JoinsPorts, sides_of, tiled}
+use Rattle.aol_flat.proofs.TilerRules.{JoinsPorts, sides_of, tiled}
 use Rattle.aol_flat.proofs.Truth.{both, not_none}
 use Rattle.aol_change.specs.Blocks.{inputs_in, outputs_in, shape_in, port_over, tiler_over, ports_over, tilers_on, filled_block}
 use Rattle.aol_change.proofs.ChangedChecks.{each-split}
-use Rattle.aol_change.proofs.Checks.{each-all, each-mapped, hold-both}
+use Rattle.aol_change.proofs.Checks.{each-all, each-mapped}
 use Rattle.aol_change.proofs.KindChecks.{hold-one}
 use Rattle.aol_change.proofs.TilerForms.{inner_fits}
-use Rattle.aol_tiling.proofs.Old.{FitsPorts, fits_ports}
+use Rattle.aol_tiling.proofs.Old.{fits_ports}
 
 -- ---- lists
 

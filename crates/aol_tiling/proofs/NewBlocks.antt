@@ -1,13 +1,12 @@
 -- The rules of the repetition over the blocks hold.
-use Rattle.std.proofs.Common.{◌≡◌, ℕ, ◌+◌, Bool, true, false, cond, not, ◌&&◌, ◌||◌, ◌==◌, List, [], ◌∷◌, ◌++◌, suc, length, map, filter, find, Option, Some, None, is_some, is_none, unwrap_or, sym, ◌∙◌, ap, refl, arith, subst, ◌⊎◌, inl, inr}
+use Rattle.std.proofs.Common.{◌≡◌, ℕ, ◌+◌, Bool, true, false, cond, not, ◌&&◌, ◌||◌, List, [], ◌∷◌, ◌++◌, suc, length, map, filter, Option, Some, None, is_some, is_none, sym, ◌∙◌, ap, refl, arith, subst, ◌⊎◌, inl, inr}
 use Rattle.std.specs.Option.{option_or}
 use Rattle.std.specs.List.{IsAmong, list_all, list_any, count_by}
 use Rattle.std.proofs.lemmas.Bool.{eq-eqb}
 use Rattle.std.proofs.lemmas.List.Folds.{find-append}
 use Rattle.aol_shape.specs.Lists.{same}
-use Rattle.aol_tiler.specs.Tiler.{fits, blocked}
+use Rattle.aol_tiler.specs.Tiler.{blocked}
 use Rattle.aol_expr_tree.specs.declared.port.Port.{Port}
-use Rattle.aol_link.specs.declared.link.Interlink.{Interlink}
 use Rattle.aol_model_types.specs.declared.place.Key.TheVariants.{KIn, KOut, KTilers}
 use Rattle.aol_model_types.specs.declared.place.PlaceStep.{PlaceStep}
 use Rattle.aol_model_types.specs.declared.task.Repeated.{Repeated}
@@ -15,19 +14,19 @@ use Rattle.aol_model_types.specs.declared.task.Task.{Task}
 use Rattle.aol_model_types.specs.declared.task.Task.TheVariants as tasks
 use Rattle.aol_model_types.specs.declared.task.TilerOn.{TilerOn}
 use Rattle.aol_model_types.specs.Places.{to_key}
-use Rattle.aol_model_types.specs.Rules.{each, task_name, task_named, inputs_named, outputs_named, port_shape, port_checks, tiler_checks, is_on_ports, tiles_output_once, tiler_fits, fits_in, inner_is_fed, all_inner_fed, is_tiled, is_earlier_task}
+use Rattle.aol_model_types.specs.Rules.{each, task_name, task_named, inputs_named, outputs_named, port_shape, port_checks, tiler_checks, is_on_ports, tiles_output_once, tiler_fits, fits_in, inner_is_fed, all_inner_fed, is_earlier_task}
 use Rattle.aol_flat.proofs.Checked.{HoldsOfRepeated, tiled_checks}
 use Rattle.aol_flat.proofs.Different.{Hold}
 use Rattle.aol_flat.proofs.Inside.{among_right}
-use Rattle.aol_flat.proofs.Names.{both-true, same-self}
+use Rattle.aol_flat.proofs.Names.{same-self}
 use Rattle.aol_flat.proofs.TilerRules.{JoinsPorts, sides_of, tiled}
 use Rattle.aol_flat.proofs.Truth.{both}
 use Rattle.aol_change.specs.Blocks.{inputs_in, outputs_in, shape_in, port_over, ports_over, tilers_on}
-use Rattle.aol_change.proofs.Checks.{each-all, each-moved, each-mapped}
+use Rattle.aol_change.proofs.Checks.{each-all, each-moved}
 use Rattle.aol_change.proofs.TilerForms.{blocked_fits}
 use Rattle.aol_tiling.specs.Tile.{outer_tiler, blocks_task}
-use Rattle.aol_tiling.proofs.Old.{FitsPorts, fits_ports}
-use Rattle.aol_tiling.proofs.NewBlock.{inner, over, made, over_there, over_none, shape_of_both, free, fed_by_one, any_map, count_map, kept_at, check_at}
+use Rattle.aol_tiling.proofs.Old.{fits_ports}
+use Rattle.aol_tiling.proofs.NewBlock.{inner, over, made, over_there, shape_of_both, free, fed_by_one, any_map, count_map, kept_at}
 
 module _ (before : List Task) (place : List PlaceStep) (t : Repeated) (holds : HoldsOfRepeated before place t) (plain : t.links ≡ []) (block name outer : List ℕ)
     (apart : (port : List ℕ) → is_some (port_shape (outputs_in (task_named before t.task)) port) ≡ true → is_some (port_shape (inputs_in (task_named before t.task)) port) ≡ false)

@@ -1,12 +1,11 @@
 -- A new name that isn't too long is a name.
-use Rattle.std.proofs.Common.{◌≡◌, ℕ, zero, suc, ◌+◌, ◌^◌, ◌≤◌, ◌<◌, Bool, true, false, cond, not, ◌&&◌, ◌||◌, ◌==◌, nat_lt, nat_le, List, [], ◌∷◌, ◌++◌, length, Option, Some, None, codes, decimal, sym, ◌∙◌, ap, refl, arith}
+use Rattle.std.proofs.Common.{◌≡◌, ℕ, zero, suc, ◌+◌, ◌≤◌, Bool, true, false, cond, not, ◌&&◌, ◌||◌, ◌==◌, nat_lt, nat_le, List, [], ◌∷◌, ◌++◌, length, Some, None, codes, decimal, sym, ◌∙◌, ap, refl, arith}
 use Rattle.std.specs.List.{list_all, list_any}
 use Rattle.std.proofs.lemmas.Bool.{ltb-false, le-leb}
 use Rattle.std.proofs.lemmas.List.Folds.{list_all-append, list_any-append}
-use Rattle.aol_shape.specs.declared.limit.LimitName.{LimitName}
 use Rattle.aol_shape.specs.declared.limit.LimitName.TheVariants as limits
 use Rattle.aol_shape.specs.Lists.{same}
-use Rattle.aol_shape.specs.Texts.{is_name, is_name_byte, is_letter, is_digit, are_digits, is_word, max_name, max_digits}
+use Rattle.aol_shape.specs.Texts.{is_name, is_name_byte, is_letter, is_digit, is_word, max_name, max_digits}
 use Rattle.aol_shape.proofs.Numerals.{decimal_digits}
 use Rattle.aol_flat.proofs.Names.{both-true, same-equal}
 use Rattle.aol_flat.proofs.Truth.{both}

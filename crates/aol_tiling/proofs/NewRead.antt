@@ -1,15 +1,14 @@
 -- The two new repetitions are as ones that were read.
-use Rattle.std.proofs.Common.{◌≡◌, ℕ, zero, suc, ◌+◌, ◌^◌, ◌≤◌, ◌<◌, Bool, true, false, cond, not, ◌&&◌, ◌||◌, ◌==◌, nat_lt, List, [], ◌∷◌, ◌++◌, length, map, filter, find, option_map, Option, Some, None, is_some, sym, ◌∙◌, ap, refl, arith, subst, ◌⊎◌, inl, inr}
-use Rattle.std.specs.List.{IsAmong, AllByRecursion, list_all, list_any}
+use Rattle.std.proofs.Common.{◌≡◌, ℕ, zero, suc, ◌+◌, ◌^◌, ◌≤◌, ◌<◌, Bool, true, false, cond, nat_lt, List, [], ◌∷◌, ◌++◌, length, map, filter, find, option_map, Option, Some, None, is_some, sym, ◌∙◌, ap, refl, arith, subst, ◌⊎◌, inl, inr}
+use Rattle.std.specs.List.{IsAmong, AllByRecursion, list_all}
 use Rattle.std.proofs.lemmas.Bool.{ltb-false}
 use Rattle.std.proofs.lemmas.List.{length-append, length-map}
 use Rattle.std.proofs.lemmas.List.Folds.{list_all-append}
-use Rattle.aol_shape.specs.declared.limit.LimitName.{LimitName}
 use Rattle.aol_shape.specs.declared.limit.LimitName.TheVariants as limits
 use Rattle.aol_shape.specs.Lists.{same, first_some}
 use Rattle.aol_shape.specs.Shape.{IsShape, IsEntry}
 use Rattle.aol_shape.specs.Texts.{is_name}
-use Rattle.aol_tiler.specs.Tiler.{IsTiler, blocked, first_entry_out}
+use Rattle.aol_tiler.specs.Tiler.{blocked, first_entry_out}
 use Rattle.aol_expr_tree.specs.declared.port.Port.{Port}
 use Rattle.aol_model_types.specs.declared.place.Key.TheVariants.{KOut}
 use Rattle.aol_model_types.specs.declared.place.PlaceStep.{PlaceStep}
@@ -20,7 +19,7 @@ use Rattle.aol_model_types.specs.declared.task.TilerOn.{TilerOn}
 use Rattle.aol_model_types.specs.Places.{to_key}
 use Rattle.aol_model_types.specs.Reading.{max_ports}
 use Rattle.aol_model_types.specs.Rules.{task_named, inputs_of, outputs_of, port_shape, is_tiled, kind_checks}
-use Rattle.aol_model_types.specs.Types.{IsPort, IsReadPort, IsReadTask, IsTilerOn, IsRepeated, HasOutput}
+use Rattle.aol_model_types.specs.Types.{IsPort, IsReadPort, IsReadTask, IsTilerOn}
 use Rattle.aol_flat.proofs.Checked.{HoldsOfRepeated, sides_apart, tiled_checks, named_port}
 use Rattle.aol_flat.proofs.Different.{Hold}
 use Rattle.aol_flat.proofs.Inside.{among_left, among_right}
@@ -29,13 +28,13 @@ use Rattle.aol_flat.proofs.Shapes.{found_port}
 use Rattle.aol_flat.proofs.TilerRules.{JoinsPorts, sides_of, tiled}
 use Rattle.aol_flat.proofs.Truth.{both}
 use Rattle.aol_change.specs.Blocks.{inputs_in, outputs_in, shape_in, port_over, tiler_over, ports_over, tilers_on, filled_block, shapes_limit, tilers_limit, HasRoom}
-use Rattle.aol_change.specs.Change.{joined_limit, tiler_limit, ports_limit}
+use Rattle.aol_change.specs.Change.{joined_limit, tiler_limit}
 use Rattle.aol_change.proofs.ChangedRead.{all-both, all-weaker}
 use Rattle.aol_change.proofs.Limits.{shapes_more}
 use Rattle.aol_change.proofs.Room.{has_room, one_joined, joined_fits, neither_limit}
 use Rattle.aol_change.proofs.TilerForms.{inner_is_tiler, blocked_is_tiler}
 use Rattle.aol_tiling.specs.Tile.{outer_tiler, outer_limit, blocks_task}
-use Rattle.aol_tiling.proofs.Old.{all_among, one_of_all, FitsPorts, fits_ports, shapes_within}
+use Rattle.aol_tiling.proofs.Old.{one_of_all, fits_ports, shapes_within}
 use Rattle.aol_tiling.proofs.NewBlock.{any_there, check_at}
 use Rattle.aol_tiling.proofs.ReadPorts.{ports_within, port_named}
 
@@ -117,10 +116,10 @@ module _ (before : List Task) (place : List PlaceStep) (t : Repeated) (holds : H
   port_read ports none =
       all_kept IsReadPort (λ (o : TilerOn). is_some (port_shape ports o.inner)) (λ (o : TilerOn). port_over inner block o.inner) t.tilers
       (λ o a known.
-          let s = inner_shaped o a in
-          let fit = joined_fits block (shape_in inner o.inner) (limit_at ports t.tilers o a known none) in
-          let rank : length (block ++ shape_in inner o.inner) ≤ 12 = omega (arith, fit.0, length-append block (shape_in inner o.inner)) in
-          record { port = record { rank = rank; entry = all-both IsEntry block (shape_in inner o.inner) is.entry s.entry; points = fit.1 }; named = named_inner o a })
+      let s = inner_shaped o a in
+      let fit = joined_fits block (shape_in inner o.inner) (limit_at ports t.tilers o a known none) in
+      let rank : length (block ++ shape_in inner o.inner) ≤ 12 = omega (arith, fit.0, length-append block (shape_in inner o.inner)) in
+      record { port = record { rank = rank; entry = all-both IsEntry block (shape_in inner o.inner) is.entry s.entry; points = fit.1 }; named = named_inner o a })
 
   abbrev new_ins : List Port
   new_ins = ports_over inner block (tilers_on (inputs_in inner) t.tilers)
@@ -214,9 +213,9 @@ module _ (before : List Task) (place : List PlaceStep) (t : Repeated) (holds : H
           space = outer_is;
           tilers = all_made IsTilerOn (outer_tiler block) t.tilers
               (λ o a.
-                  let f = fits_ports before place t o holds a in
-                  blocked_is_tiler o.tiler f.array t.space block (shape_in inner o.inner) (one_of_all IsTilerOn t.tilers o old.types.tilers a) f.fit block_rank (one_of_all (HasRoom inner block) t.tilers o room a)
-                  (entries (first_entry_out (blocked o.tiler block)) (none_at (λ (x : TilerOn). tiler_limit (blocked x.tiler block)) t.tilers o none a)));
+              let f = fits_ports before place t o holds a in
+              blocked_is_tiler o.tiler f.array t.space block (shape_in inner o.inner) (one_of_all IsTilerOn t.tilers o old.types.tilers a) f.fit block_rank (one_of_all (HasRoom inner block) t.tilers o room a)
+              (entries (first_entry_out (blocked o.tiler block)) (none_at (λ (x : TilerOn). tiler_limit (blocked x.tiler block)) t.tilers o none a)));
           links = tt;
           in_count = old.types.in_count;
           out_count = old.types.out_count;

@@ -1,9 +1,8 @@
 -- What the rules say of the repetition that is tiled.
-use Rattle.std.proofs.Common.{◌≡◌, ℕ, zero, subst, suc, ◌+◌, ◌≤◌, Bool, true, false, ◌&&◌, ◌==◌, List, [], ◌∷◌, ◌++◌, length, Option, Some, None, is_some, unwrap_or, sym, ◌∙◌, ap, refl, arith}
+use Rattle.std.proofs.Common.{◌≡◌, ℕ, zero, subst, suc, ◌+◌, ◌≤◌, true, ◌==◌, List, [], ◌∷◌, ◌++◌, length, Option, Some, None, unwrap_or, sym, ◌∙◌, ap, refl, arith}
 use Rattle.std.specs.List.{IsAmong, AllByRecursion}
 use Rattle.std.proofs.lemmas.Bool.{eqb-true}
 use Rattle.aol_shape.specs.Shape.{IsShape}
-use Rattle.aol_tiler.specs.Matrices.{TilerOf}
 use Rattle.aol_tiler.specs.Tiler.{fits}
 use Rattle.aol_model_types.specs.declared.document.Model.{Model}
 use Rattle.aol_model_types.specs.declared.place.PlaceStep.{PlaceStep}
@@ -84,9 +83,9 @@ can_block_all m t outer block sound found rank is within =
     let room : AllByRecursion (HasRoom (inner_task m t) block) t.tilers = has_room (inner_task m t) block is t.tilers limits.0 limits.1 in
     all_among (λ (o : TilerOn). CanBlock block o.tiler) t.tilers
     (λ o a.
-        let f = fits_ports r.before r.place t o holds a in
-        let by = fits_by o.tiler f.array t.space (shape_in (task_named r.before t.task) o.inner) f.fit in
-        let few : length block + length (shape_in (inner_task m t) o.inner) ≤ 12 = one_of_all (HasRoom (inner_task m t) block) t.tilers o room a in
-        let same : length (shape_in (inner_task m t) o.inner) ≡ length (shape_in (task_named r.before t.task) o.inner) = ap (λ i. length (shape_in i o.inner)) inner in
-        let block_rank : length block ≡ length t.space = (ranks t outer block rank).1 in
-        record { block_rank = block_rank ∙ sym by.paving; fitting_room = omega (arith, few, same, by.paving, by.fitting, block_rank) })
+    let f = fits_ports r.before r.place t o holds a in
+    let by = fits_by o.tiler f.array t.space (shape_in (task_named r.before t.task) o.inner) f.fit in
+    let few : length block + length (shape_in (inner_task m t) o.inner) ≤ 12 = one_of_all (HasRoom (inner_task m t) block) t.tilers o room a in
+    let same : length (shape_in (inner_task m t) o.inner) ≡ length (shape_in (task_named r.before t.task) o.inner) = ap (λ i. length (shape_in i o.inner)) inner in
+    let block_rank : length block ≡ length t.space = (ranks t outer block rank).1 in
+    record { block_rank = block_rank ∙ sym by.paving; fitting_room = omega (arith, few, same, by.paving, by.fitting, block_rank) })

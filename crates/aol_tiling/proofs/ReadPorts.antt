@@ -1,5 +1,5 @@
 -- Tasks of a model that was read, and their ports.
-use Rattle.std.proofs.Common.{◌≡◌, ℕ, Bool, true, false, ◌&&◌, List, [], ◌∷◌, ◌++◌, map, Some, is_some, sym, ◌∙◌, ap, refl, subst}
+use Rattle.std.proofs.Common.{◌≡◌, ℕ, true, List, [], ◌∷◌, ◌++◌, map, Some, sym, ◌∙◌}
 use Rattle.std.specs.List.{IsAmong, AllByRecursion, list_all}
 use Rattle.std.proofs.lemmas.List.Folds.{list_all-append, list_all-map}
 use Rattle.aol_shape.specs.Lists.{same}

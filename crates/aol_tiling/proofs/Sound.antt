@@ -1,7 +1,7 @@
 -- The tiled model of a sound one is sound.
-use Rattle.std.proofs.Common.{◌≡◌, ℕ, zero, suc, ◌+◌, ◌^◌, ◌<◌, ◌≤◌, Bool, true, false, cond, not, ◌&&◌, ◌||◌, ◌==◌, List, [], ◌∷◌, ◌++◌, length, map, find, Option, Some, None, is_some, is_none, sym, ◌∙◌, ap, refl, arith, subst}
+use Rattle.std.proofs.Common.{◌≡◌, ℕ, zero, suc, ◌+◌, ◌^◌, ◌<◌, Bool, true, false, cond, not, ◌||◌, ◌==◌, List, [], ◌∷◌, ◌++◌, length, map, Option, Some, None, is_some, is_none, sym, ◌∙◌, ap, refl, arith, subst}
 use Rattle.std.specs.Option.{option_or}
-use Rattle.std.specs.List.{IsAmong, AllByRecursion, list_any}
+use Rattle.std.specs.List.{IsAmong, AllByRecursion}
 use Rattle.aol_model_types.specs.Types.{IsReadTask}
 use Rattle.std.proofs.lemmas.Bool.{eqb-true}
 use Rattle.std.proofs.lemmas.List.{length-append, length-map, append-nil}
@@ -18,16 +18,15 @@ use Rattle.aol_model_types.specs.declared.task.Repeated.{Repeated}
 use Rattle.aol_model_types.specs.declared.task.Task.{Task}
 use Rattle.aol_model_types.specs.declared.task.Task.TheVariants as tasks
 use Rattle.aol_model_types.specs.Places.{to_key, to_index}
-use Rattle.aol_model_types.specs.Rules.{check, each_from, task_checks, kind_checks, task_name, task_named, port_shape, is_new_task, is_earlier_task, inputs_of, outputs_of}
+use Rattle.aol_model_types.specs.Rules.{check, each_from, task_checks, kind_checks, task_name, task_named, port_shape, is_new_task, is_earlier_task}
 use Rattle.aol_flat.specs.Accept.{IsSound}
 use Rattle.aol_flat.proofs.Checked.{HoldsOfRepeated, of_repeated, task_of, sides_apart, named_earlier}
 use Rattle.aol_flat.proofs.Different.{Hold}
-use Rattle.aol_flat.proofs.Find.{found_name}
-use Rattle.aol_flat.proofs.Names.{both-true, same-self, same-equal}
+use Rattle.aol_flat.proofs.Names.{same-self, same-equal}
 use Rattle.aol_flat.proofs.Among.{map_among}
 use Rattle.aol_flat.proofs.Once.{there, found_among}
-use Rattle.aol_change.specs.Blocks.{inputs_in, outputs_in, inner_task, filled_block, block_task, block_name, block_limit, tilers_limit}
-use Rattle.aol_change.specs.Change.{Changed, within_limits, is_taken, taken_names, new_name, numbered, name_limit, has_links, have_rank}
+use Rattle.aol_change.specs.Blocks.{inputs_in, outputs_in, filled_block, block_task, block_name, block_limit, tilers_limit}
+use Rattle.aol_change.specs.Change.{Changed, within_limits, is_taken, taken_names, name_limit, has_links, have_rank}
 use Rattle.aol_change.specs.Step.{IsChange}
 use Rattle.aol_change.proofs.ChangedChecks.{shapes_changed, HoldInPlace}
 use Rattle.aol_change.proofs.ChangedRead.{read_changed}
@@ -185,9 +184,12 @@ module _ (m : Model) (t : Repeated) (outer block : List ℕ) (sound : IsSound m)
       let is : is_name name ≡ true = numbered_is_name t.name _ (own_name (tasks.Repeated t) old) (omega (arith, number, count, few)) limits.0 in
       let Q : Option Task → Type 0 = λ o.
       IsReadTask (tasks.Repeated (filled_block o t.tilers block (record { name = name; ins = []; outs = []; space = block; task = t.task; tilers = []; links = [] }))) in (
-        subst Q (sym inner) (block_read r.before r.place t holds block block_is u.0 u.1 (task_read m t.task u.0 sound.read u.2) old limit name is r.holds), (
-        blocks_read r.before r.place t holds block block_is u.0 u.1 (task_read m t.task u.0 sound.read u.2) old limit outer name outer_is (ranks t outer block rank).1 limits.1.1,
-        tt))
+        subst Q (sym inner) (block_read r.before r.place t holds block block_is u.0 u.1 (task_read m t.task u.0 sound.read u.2) old limit name is r.holds),
+        (
+          blocks_read r.before r.place t holds block block_is u.0 u.1 (task_read m t.task u.0 sound.read u.2) old limit outer name outer_is (ranks t outer block rank).1 limits.1.1,
+          tt,
+        ),
+      )
 
   pub tiled_sound : IsSound (tiled_model m t outer block)
   tiled_sound = record {

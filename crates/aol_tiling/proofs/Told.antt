@@ -1,11 +1,9 @@
 -- What the step answers, by the limits of its parts.
-use Rattle.std.proofs.Common.{◌≡◌, ℕ, List, Option, Some, None, Result, Ok, Err, ◌⊎◌, inl, inr, sym, ◌∙◌, ap, refl}
-use Rattle.aol_shape.specs.declared.limit.LimitName.{LimitName}
-use Rattle.aol_shape.specs.Lists.{or_else}
+use Rattle.std.proofs.Common.{◌≡◌, Err, ◌⊎◌, inl, inr, ◌∙◌, ap, refl}
 use Rattle.aol_model_types.specs.declared.document.Model.{Model}
 use Rattle.aol_change.specs.declared.refused.StepRefused.{StepRefused}
 use Rattle.aol_change.specs.declared.refused.StepRefused.TheVariants.{Limit, NoMemory, NotRepeated, NotTwoLevels, NotJoined, HasLinks, Rank}
-use Rattle.aol_change.specs.Change.{Stepped, Changed, Refused, within_limits, bounded}
+use Rattle.aol_change.specs.Change.{Stepped, Changed, Refused, bounded}
 use Rattle.aol_change.specs.Made.{IsStep}
 
 -- the cause of a step is that of the step within the limits of the hierarchy

@@ -1,5 +1,5 @@
 use Rattle.std.proofs.Common.{◌++◌, reverse, ap, sym, ◌∙◌}
-use Rattle.aol_change.proofs.Lists.{put_done, put_none, within_all}
+use Rattle.aol_change.proofs.Lists.{put_done, put_none}
 use Rattle.aol_change.proofs.list.put_before.Goals as goal
 
 pub returns-in-None : goal.returns-in-None

@@ -92,7 +92,7 @@ pub fn output_shape<'a>(task: Option<&'a Task>, port: &Name) -> Option<&'a Shape
     output_of(task?, port)
 }
 
-/// The shape of an input or output of a task, where there are both; else a scalar's.
+/// The shape of an input of a task, or else of an output, where there is one of this name.
 #[tactic(auto, using(aol_model_types::proofs::PortNames::port_behind))]
 pub fn port_shape<'a>(task: Option<&'a Task>, port: &Name) -> Option<&'a Shape>
     ensures { option_copied result ≡ port_shape (inputs_in (option_copied task.entry) ++ outputs_in (option_copied task.entry)) port.now }

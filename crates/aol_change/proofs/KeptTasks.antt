@@ -20,7 +20,7 @@ use Rattle.aol_change.proofs.NewNames.{is_free}
 use Rattle.aol_change.proofs.ChangedTasks.{filter_put, found_put}
 
 -- the main task is there
-main_there : (m : Model) → ShapesAgree m → is_some (task_named m.tasks m.main) ≡ true
+pub main_there : (m : Model) → ShapesAgree m → is_some (task_named m.tasks m.main) ≡ true
 main_there m agree =
     (both-true (main_is_task m) _ (hold-parts (each task_checks (to_key (to_key [] KModel) KTasks) m.tasks) (check (to_key (to_key [] KModel) KMain) 23 (main_is_task m) ∷ []) agree).1).0
 

@@ -6,6 +6,7 @@ pub mod NewNames
 pub mod ReadPorts
 pub mod NewRead
 pub mod Sound
+pub mod NewLeaves
 pub mod Told
 mod Sample
 mod Examples

@@ -13,6 +13,6 @@ mod laws;
 mod model;
 mod step;
 
-pub use laws::tiled_keeps_tasks;
+pub use laws::{tiled_keeps_tasks, tiled_leaves};
 pub use model::tiled;
 pub use step::tiled_flat;

@@ -1,5 +1,5 @@
 -- The leaves of the tiled model are the old ones, with two levels for the one of the task.
-use Rattle.std.proofs.Common.{◌≡◌, ℕ, zero, suc, ◌+◌, ◌^◌, ◌<◌, Bool, true, false, cond, List, [], ◌∷◌, ◌++◌, length, drop, map, find, Option, Some, None, is_some, option_map, option_and_then, slice_get, sym, ◌∙◌, ap, refl, arith, subst}
+use Rattle.std.proofs.Common.{◌≡◌, ℕ, zero, suc, ◌^◌, ◌<◌, Bool, true, false, cond, List, [], ◌∷◌, ◌++◌, length, drop, map, Option, Some, None, is_some, option_map, option_and_then, slice_get, sym, ◌∙◌, ap, refl, arith, subst}
 use Rattle.std.specs.List.{IsAmong, enumerate_from, flat_map}
 use Rattle.std.proofs.lemmas.List.{append_assoc, append-nil, map-append}
 use Rattle.std.proofs.Math.Seq.{drop-append_seam}
@@ -16,8 +16,8 @@ use Rattle.aol_model_types.specs.declared.task.Task.{Task}
 use Rattle.aol_model_types.specs.declared.task.Task.TheVariants as tasks
 use Rattle.aol_model_types.specs.Places.{to_key}
 use Rattle.aol_model_types.specs.Rules.{ShapesAgree, task_name, task_named, is_earlier_task, is_new_part, part_checks}
-use Rattle.aol_flat.specs.Instance.{Leaf, Computes, Copies, leaves_below, leaves, reshape_leaf}
-use Rattle.aol_flat.specs.Node.{Branch, ToPart, ToBody, Node, space_around, node_task, task_under}
+use Rattle.aol_flat.specs.Instance.{Leaf, Computes, Copies, leaves_below, reshape_leaf}
+use Rattle.aol_flat.specs.Node.{ToPart, ToBody, Node, space_around, node_task, task_under}
 use Rattle.aol_flat.specs.Numbered.{number_named, inner_names, StandOnEarlier}
 use Rattle.aol_flat.specs.Tasks.{main_task}
 use Rattle.aol_flat.proofs.Among.{map_among, get_among}
@@ -26,10 +26,9 @@ use Rattle.aol_flat.proofs.Inside.{number_of_member}
 use Rattle.aol_flat.proofs.Names.{both-true, same-self, same-equal}
 use Rattle.aol_flat.proofs.Once.{there}
 use Rattle.aol_flat.proofs.Order.{stand_on_earlier}
-use Rattle.aol_flat.proofs.TaskNumbers.{IsFound, found, none_from}
-use Rattle.aol_flat.specs.Accept.{IsSound}
+use Rattle.aol_flat.proofs.TaskNumbers.{found, none_from}
 use Rattle.aol_change.specs.Blocks.{block_task, block_name}
-use Rattle.aol_change.specs.Change.{put_before, is_taken, taken_names, new_name, is_named}
+use Rattle.aol_change.specs.Change.{put_before, is_taken, is_named}
 use Rattle.aol_change.proofs.KeptTasks.{main_there, new_is_free}
 use Rattle.aol_change.proofs.StillThere.{not_among}
 use Rattle.aol_tiling.specs.Tile.{tiled_model, blocks_task}

@@ -1,0 +1,15 @@
+pub mod NewNames
+pub mod ChangedTasks
+pub mod KeptTasks
+pub mod Taken
+pub mod Checks
+pub mod StillThere
+pub mod KindChecks
+pub mod ChangedChecks
+pub mod ChangedRead
+pub mod TilerForms
+pub mod Lists
+pub mod Limits
+pub mod Room
+pub mod BlockMade
+pub mod Sample

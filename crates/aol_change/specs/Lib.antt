@@ -1,0 +1,4 @@
+pub mod Change
+pub mod Blocks
+pub mod Made
+pub mod Step

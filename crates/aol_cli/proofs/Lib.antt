@@ -7,3 +7,4 @@ pub mod Replies
 pub mod LineWords
 pub mod OneNode
 pub mod OneReply
+pub mod Instances

@@ -3,6 +3,7 @@ pub mod Status
 pub mod Reply
 pub mod Line
 pub mod Inputs
+pub mod Instance
 pub mod Lent
 pub mod Run
 pub mod Outputs

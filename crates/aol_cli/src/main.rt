@@ -7,6 +7,7 @@
 mod answer;
 mod fault;
 mod inputs;
+mod instance;
 mod laws;
 mod limits;
 mod line;

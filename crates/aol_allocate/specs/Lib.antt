@@ -1,0 +1,4 @@
+pub mod Placement
+pub mod Workers
+pub mod Marks
+pub mod Tables

@@ -1,0 +1,4 @@
+//! The limit of workers.
+
+/// The most workers.
+pub const MAX_WORKERS: u32 = 64;

@@ -8,3 +8,4 @@ pub mod LineWords
 pub mod OneNode
 pub mod OneReply
 pub mod Instances
+pub mod Placements

@@ -7,6 +7,7 @@ pub mod Instance
 pub mod Lent
 pub mod Run
 pub mod Outputs
+pub mod Placed
 pub mod Fault
 pub mod Answer
 pub mod Answered

@@ -12,6 +12,7 @@ mod laws;
 mod limits;
 mod line;
 mod outputs;
+mod place;
 mod print;
 mod program;
 mod reply;

@@ -89,7 +89,7 @@ module _ (m : Model) (sound : IsSound m) where
       (input_shaped m sound l.up (tasks.Repeated l.task) f.outer f.array l.at_place f.outer_shape) (subst P (sym (ap (λ (x : Element). x.index) f.right)) inside)
 
   -- the repetition from which a link leads is one of the space
-  source_inside : (t : Repeated) (s : IsTaskOf m (tasks.Repeated t)) (l : Interlink) (r source : List ℕ) → IsPointOf t.space r → length l.distance ≡ length t.space
+  pub source_inside : (t : Repeated) (s : IsTaskOf m (tasks.Repeated t)) (l : Interlink) (r source : List ℕ) → IsPointOf t.space r → length l.distance ≡ length t.space
       → source_repetition l.wrap l.distance t.space r ≡ Some source → IsPointOf t.space source
   source_inside t s l r source point spans h = go l.wrap refl (is_inside t.space (stepped_back r l.distance)) refl h
     where

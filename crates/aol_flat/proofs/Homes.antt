@@ -30,40 +30,40 @@ output_home m e h = rw h
 
 -- ---- one step of following
 
-part_step : (m : Model) (c : Compound) (up : Place) (k : ℕ) (u x : List ℕ) (l : Plain) → task_at m up ≡ Some (tasks.Compound c) → link_into_part c k u ≡ Some l
+pub part_step : (m : Model) (c : Compound) (up : Place) (k : ℕ) (u x : List ℕ) (l : Plain) → task_at m up ≡ Some (tasks.Compound c) → link_into_part c k u ≡ Some l
     → origin m (IntoPart k ∷ up) u x ≡ end_origin c up x (origin m up) l.from.port l.from.part
 part_step m c up k u x l h f =
     ap (λ t. part_origin t up k u x (origin m up)) h ∙ ap (linked_origin c up k u x (origin m up)) f
 
-tiled_step : (m : Model) (t : Repeated) (up : Place) (r x array : List ℕ) (o : TilerOn) → task_at m up ≡ Some (tasks.Repeated t) → tiler_at t o.inner ≡ Some o
+pub tiled_step : (m : Model) (t : Repeated) (up : Place) (r x array : List ℕ) (o : TilerOn) → task_at m up ≡ Some (tasks.Repeated t) → tiler_at t o.inner ≡ Some o
     → port_shape t.ins o.outer ≡ Some array → origin m (IntoRepetition r ∷ up) o.inner x ≡ origin m up o.outer (address_point o.tiler array r x)
 tiled_step m t up r x array o h f g =
     ap (λ u. repetition_origin u up r o.inner x (origin m up)) h
     ∙ (ap (tiled_origin t up r o.inner x (origin m up)) f
     ∙ ap (λ (a : Option (List ℕ)). origin m up o.outer (address_point o.tiler (unwrap_or a []) r x)) g)
 
-inner_step : (m : Model) (t : Repeated) (up : Place) (r x : List ℕ) (l : Interlink) → task_at m up ≡ Some (tasks.Repeated t) → tiler_at t l.to ≡ None
+pub inner_step : (m : Model) (t : Repeated) (up : Place) (r x : List ℕ) (l : Interlink) → task_at m up ≡ Some (tasks.Repeated t) → tiler_at t l.to ≡ None
     → link_into_repetition t l.to ≡ Some l → origin m (IntoRepetition r ∷ up) l.to x ≡ source_origin t up r x (origin m up) l (source_repetition l.wrap l.distance t.space r)
 inner_step m t up r x l h f g =
     ap (λ u. repetition_origin u up r l.to x (origin m up)) h ∙ (ap (tiled_origin t up r l.to x (origin m up)) f ∙ ap (link_origin t up r x (origin m up)) g)
 
-link_step : (m : Model) (t : Repeated) (up : Place) (r source x : List ℕ) (l : Interlink) → task_at m up ≡ Some (tasks.Repeated t) → tiler_at t l.to ≡ None
+pub link_step : (m : Model) (t : Repeated) (up : Place) (r source x : List ℕ) (l : Interlink) → task_at m up ≡ Some (tasks.Repeated t) → tiler_at t l.to ≡ None
     → link_into_repetition t l.to ≡ Some l → source_repetition l.wrap l.distance t.space r ≡ Some source
     → origin m (IntoRepetition r ∷ up) l.to x ≡ Output (record { place = IntoRepetition source ∷ up; port = l.from; index = x })
 link_step m t up r source x l h f g k = inner_step m t up r x l h f g ∙ ap (source_origin t up r x (origin m up) l) k
 
-default_step : (m : Model) (t : Repeated) (up : Place) (r x : List ℕ) (l : Interlink) (choice : Choice) → task_at m up ≡ Some (tasks.Repeated t) → tiler_at t l.to ≡ None
+pub default_step : (m : Model) (t : Repeated) (up : Place) (r x : List ℕ) (l : Interlink) (choice : Choice) → task_at m up ≡ Some (tasks.Repeated t) → tiler_at t l.to ≡ None
     → link_into_repetition t l.to ≡ Some l → source_repetition l.wrap l.distance t.space r ≡ None → default_choice l t.space r ≡ Some choice
     → origin m (IntoRepetition r ∷ up) l.to x ≡ fallback_origin t r x (origin m up) choice.take
 default_step m t up r x l choice h a b c d =
     inner_step m t up r x l h a b ∙ (ap (source_origin t up r x (origin m up) l) c ∙ ap (choice_origin t r x (origin m up)) d)
 
-up_step : (m : Model) (c : Compound) (up : Place) (k : ℕ) (y x : List ℕ) (l : Plain) → task_at m up ≡ Some (tasks.Compound c) → link_up c k y ≡ Some l
+pub up_step : (m : Model) (c : Compound) (up : Place) (k : ℕ) (y x : List ℕ) (l : Plain) → task_at m up ≡ Some (tasks.Compound c) → link_up c k y ≡ Some l
     → handed m (IntoPart k ∷ up) y x ≡ handed m up l.to.port x
 up_step m c up k y x l h f =
     ap (λ t. part_handed t up k y x (handed m up)) h ∙ ap (link_handed (record { place = IntoPart k ∷ up; port = y; index = x }) x (handed m up)) f
 
-outer_step : (m : Model) (t : Repeated) (up : Place) (r x array : List ℕ) (o : TilerOn) → task_at m up ≡ Some (tasks.Repeated t) → tiler_at t o.inner ≡ Some o
+pub outer_step : (m : Model) (t : Repeated) (up : Place) (r x array : List ℕ) (o : TilerOn) → task_at m up ≡ Some (tasks.Repeated t) → tiler_at t o.inner ≡ Some o
     → port_shape t.outs o.outer ≡ Some array → handed m (IntoRepetition r ∷ up) o.inner x ≡ handed m up o.outer (address_point o.tiler array r x)
 outer_step m t up r x array o h f g =
     ap (λ u. repetition_handed u up r o.inner x (handed m up)) h

@@ -9,12 +9,14 @@ use Rattle.aol_flat.specs.declared.leaf.Leaf.{Leaf as LeafRow}
 use Rattle.aol_flat.specs.declared.refused.FlatRefused.{FlatRefused}
 use Rattle.aol_flat.specs.declared.refused.FlatRefused.TheVariants.{Limit, NoMemory}
 use Rattle.aol_flat.specs.declared.spot.Spot.{Spot}
+use Rattle.aol_flat.specs.declared.tables.Tables.{Tables}
 use Rattle.aol_flat.specs.declared.walk.Walk.{Walk}
 use Rattle.aol_flat.specs.Accept.{IsSound}
 use Rattle.aol_flat.specs.Instance.{Leaf, leaves_below, leaves, instances}
 use Rattle.aol_flat.specs.Leaves.{narrowed, row_of, rows_after, instances_of, IsLeafRow}
 use Rattle.aol_flat.specs.Limits.{max_walk, first_past, IsBounded}
 use Rattle.aol_flat.specs.Node.{Node, nodes_below, nodes, node_path}
+use Rattle.aol_flat.specs.NodeTables.{AreNodeTables}
 use Rattle.aol_flat.specs.Numbered.{number_named}
 use Rattle.aol_flat.specs.Tables.{AreTablesOf, IsFirstLimit}
 use Rattle.aol_flat.specs.Tasks.{main_task}
@@ -62,12 +64,14 @@ module _ (m : Model) where
   bounded walk passed = ap (first_past 0 0 0) (sym (append-nil (nodes m))) ∙ passed.counts []
 
   -- the tables are those of the model
-  pub tables : (walk : Walk) (rows : List LeafRow) (count : ℕ) → IsSound m → HasPassed m (nodes m) (leaves m) walk → rows ≡ walk.leaves → count ≡ narrowed walk.instances → AreTablesOf m rows count
-  tables walk rows count sound passed are is = record {
+  pub tables : (walk : Walk) (rows : List LeafRow) (count : ℕ) (of_nodes : Tables) → IsSound m → HasPassed m (nodes m) (leaves m) walk → rows ≡ walk.leaves → count ≡ narrowed walk.instances
+      → AreNodeTables m of_nodes → AreTablesOf m rows count of_nodes
+  tables walk rows count of_nodes sound passed are is nodes_are = record {
     sound = sound;
     limits = bounded walk passed;
     rows_are = are ∙ passed.rows;
     count_is = is ∙ (ap narrowed passed.instances ∙ narrowed-saturated m (instances_of (leaves m)));
+    nodes_are = nodes_are;
   }
 
   -- the limit that is told is the first
@@ -108,7 +112,7 @@ module _ (m : Model) where
       let regroup : (before + size l.space) + instances_of (take k ls) ≡ before + (size l.space + instances_of (take k ls)) = omega arith in
       record { leaf = r.leaf; at = r.at; is = r.is ∙ ap (λ n. row_of m n r.leaf) regroup; few = omega (arith, r.few) }
 
-  module _ (rows : List LeafRow) (count : ℕ) (t : AreTablesOf m rows count) where
+  module _ (rows : List LeafRow) (count : ℕ) (of_nodes : Tables) (t : AreTablesOf m rows count of_nodes) where
     -- the leaves are counted by the rows, and a u32 counts them
     pub count_leaves : (length rows ≡ length (leaves m)) × (length (leaves m) ≤ max_walk)
     count_leaves =

@@ -56,3 +56,28 @@ pub mod Visiting
 pub mod Totals
 pub mod Order
 pub mod Laying
+pub mod Positions
+pub mod NodeTasks
+pub mod NodeAt
+pub mod Hands
+pub mod Arrays
+pub mod Repetitions
+pub mod Few
+pub mod PortsOf
+pub mod Fitting
+pub mod StoredAt
+pub mod Outward
+pub mod InputFeeds
+pub mod Inward
+pub mod Linked
+pub mod FirstOnes
+pub mod Placing
+pub mod Stepping
+pub mod Subtrees
+mod Narrow
+pub mod NodeRows
+mod Storing
+pub mod Firsts
+mod Standing
+pub mod CellTable
+pub mod Crossing

@@ -69,7 +69,7 @@ port_limits (tasks.Repeated t) p h a =
     ]
 
 module _ (m : Model) (sound : IsSound m) where
-  task_limits : (t : Task) → IsTaskOf m t → IsTask t
+  pub task_limits : (t : Task) → IsTaskOf m t → IsTask t
   task_limits t s =
       AllByRecursion-at IsTask m.tasks (length s.before + 0) t sound.read.model.tasks
       (ap (λ ts. slice_get ts (length s.before + 0)) s.split ∙ slice_get-right s.before (t ∷ s.rest) 0)

@@ -50,7 +50,7 @@ sides_of ts t o rules = go (either _ _ rules.ports)
     go (inr h) = let parts = both-true (is_some (port_shape t.outs o.outer)) _ h in inr (record { outside = parts.0; inside = parts.1 })
 
 -- an inner input is fed by one tiler or link
-fed_once : (ts : List Task) (place : List PlaceStep) (t : Repeated) (port : List ℕ) → HoldsOfRepeated ts place t → is_some (port_shape (inputs_named ts t.task) port) ≡ true
+pub fed_once : (ts : List Task) (place : List PlaceStep) (t : Repeated) (port : List ℕ) → HoldsOfRepeated ts place t → is_some (port_shape (inputs_named ts t.task) port) ≡ true
     → count_by (λ (e : TilerOn). same e.inner port) t.tilers + count_by (λ (l : Interlink). same l.to port) t.links ≡ 1
 fed_once ts place t port holds known =
     let u = named_port (inputs_named ts t.task) port known in

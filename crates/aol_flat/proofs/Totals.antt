@@ -36,7 +36,7 @@ walk_of-append : (a b : List (Node × Task)) → walk_of (a ++ b) ≡ walk_of a 
 walk_of-append [] b = omega arith
 walk_of-append ((node, t) ∷ a) b = omega (arith, walk_of-append a b)
 
-no_limit : (node : Node) (o : Option LimitName) (later : Option (Node × LimitName)) → limit_at node o later ≡ None → (o ≡ None) × (later ≡ None)
+pub no_limit : (node : Node) (o : Option LimitName) (later : Option (Node × LimitName)) → limit_at node o later ≡ None → (o ≡ None) × (later ≡ None)
 no_limit node None later h = (refl, h)
 no_limit node (Some limit) later h = cc
 
@@ -49,7 +49,7 @@ within depth n w k h = go (nat_lt max_hierarchy depth) (nat_lt max_node_count n)
     go false false true d e h = cc
     go false false false d e h = grind (arith, nat_tests)
 
-walk_within : (n w k : ℕ) (ns : List (Node × Task)) → w ≤ max_walk → first_past n w k ns ≡ None → w + walk_of ns ≤ max_walk
+pub walk_within : (n w k : ℕ) (ns : List (Node × Task)) → w ≤ max_walk → first_past n w k ns ≡ None → w + walk_of ns ≤ max_walk
 walk_within n w k [] few h = omega arith
 walk_within n w k ((node, t) ∷ rest) few h =
     let w' : ℕ = w + own_walk t * size (space_around node) in
@@ -75,7 +75,7 @@ found_read (u ∷ ts) test t types outputs h = go (test u) refl (found_read ts t
         subst IsReadTaskOf here (record { types = types.0; output = outputs.0 })
     go false e later = later (rw e at h)
 
-read_named : (m : Model) (name : List ℕ) (t : Task) → IsReadModel m → task_named m.tasks name ≡ Some t → IsReadTaskOf t
+pub read_named : (m : Model) (name : List ℕ) (t : Task) → IsReadModel m → task_named m.tasks name ≡ Some t → IsReadTaskOf t
 read_named m name t read h = found_read m.tasks (λ u. same (task_name u) name) t read.model.tasks read.outputs h
 
 -- an elementary task has an element at least
@@ -198,7 +198,7 @@ module _ (m : Model) (read : IsReadModel m) where
 
 -- ---- the instances
 
-length-numbers : (from n : ℕ) → length (numbers_from from n) ≡ n
+pub length-numbers : (from n : ℕ) → length (numbers_from from n) ≡ n
 length-numbers from zero = refl
 length-numbers from (suc n) = ap suc (length-numbers (from + 1) n)
 

@@ -180,12 +180,12 @@ leaves_under fuel m (tasks.Elementary e) node = record { node = node; work = Com
 leaves_under fuel m (tasks.Compound c) node = leaves_in fuel m node (enumerate_from 0 c.parts) ++ map (reshape_leaf node) (enumerate_from 0 c.reshapes)
 leaves_under fuel m (tasks.Repeated r) node = leaves_below fuel m (task_named m.tasks r.task) (ToBody r.space ∷ node)
 
-nodes_split : (fuel : ℕ) (m : Model) (t : Task) (node : Node) → nodes_below (suc fuel) m (Some t) node ≡ (node, t) ∷ nodes_under fuel m t node
+pub nodes_split : (fuel : ℕ) (m : Model) (t : Task) (node : Node) → nodes_below (suc fuel) m (Some t) node ≡ (node, t) ∷ nodes_under fuel m t node
 nodes_split fuel m (tasks.Elementary e) node = refl
 nodes_split fuel m (tasks.Compound c) node = refl
 nodes_split fuel m (tasks.Repeated r) node = refl
 
-leaves_split : (fuel : ℕ) (m : Model) (t : Task) (node : Node) → leaves_below (suc fuel) m (Some t) node ≡ leaves_under fuel m t node
+pub leaves_split : (fuel : ℕ) (m : Model) (t : Task) (node : Node) → leaves_below (suc fuel) m (Some t) node ≡ leaves_under fuel m t node
 leaves_split fuel m (tasks.Elementary e) node = refl
 leaves_split fuel m (tasks.Compound c) node = refl
 leaves_split fuel m (tasks.Repeated r) node = refl
@@ -195,7 +195,7 @@ abbrev pub GoesUnder : Model → ℕ → Task → Spot → Walk → Walk → Ans
 GoesUnder m number t spot s0 s1 answer =
     (node : Node) (fuel : ℕ) → IsSpot m node spot → StandsAt m node number t → number ≤ fuel → GoesOver m (nodes_under fuel m t node) (leaves_under fuel m t node) s0 s1 answer
 
-listed_task : (ts : List Task) (k : ℕ) (t u : Task) → slice_get ts k ≡ Some t → u ≡ get_or ts k u → t ≡ u
+pub listed_task : (ts : List Task) (k : ℕ) (t u : Task) → slice_get ts k ≡ Some t → u ≡ get_or ts k u → t ≡ u
 listed_task [] k t u h is = cc
 listed_task (x ∷ ts) zero t u h is = let here : x ≡ t = cc in sym here ∙ sym is
 listed_task (x ∷ ts) (suc k) t u h is = listed_task ts k t u h is

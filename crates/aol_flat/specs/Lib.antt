@@ -10,6 +10,7 @@ pub mod Counted
 pub mod Numbered
 pub mod Leaves
 pub mod Walked
+pub mod NodeTables
 pub mod Tables
 pub mod ElementaryMain
 pub mod Printed
@@ -17,6 +18,11 @@ pub mod Home
 pub mod Node
 pub mod Instance
 pub mod Laid
+pub mod NodeTable
+pub mod Placed
+pub mod Below
+pub mod Stored
+pub mod Cells
 pub mod Targets
 pub mod Reads
 pub mod Limits
@@ -29,3 +35,6 @@ pub mod Wired
 pub mod Followed
 pub mod Keep
 pub mod Sources
+pub mod Feed
+pub mod Follow
+pub mod Cursor

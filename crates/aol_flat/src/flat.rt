@@ -7,13 +7,16 @@ ghost use Rattle.aol_flat.specs.Instance.{instances, leaves};
 ghost use Rattle.aol_flat.specs.Leaves.{IsLeafRow};
 ghost use Rattle.aol_flat.specs.Limits.{IsBounded};
 ghost use Rattle.aol_flat.specs.Node.{nodes};
-ghost use Rattle.aol_flat.specs.Tables.{EndsWith, IsFirstLimit};
+ghost use Rattle.aol_flat.specs.NodeTable.{IsNodeRow, HasPart, IsPartNode, HasInput, IsFirstOfInput, HasOutput, IsFirstOfOutput, IsLeafSpot};
+ghost use Rattle.aol_flat.specs.Tables.{EndsWith, EndsLaid, IsFirstLimit};
 ghost use Rattle.aol_flat.specs.Walked.{GoesOver};
 
 use crate::leaf::Leaf;
+use crate::nodes::{LeafSpot, NodeRow};
 use crate::numbers::{number_named, numbers_of};
 use crate::refused::FlatRefused;
 use crate::spot::root;
+use crate::tables::{Tables, tables_of};
 use crate::visit::{Hierarchy, visit};
 use crate::walk::{Walk, narrowed};
 use aol_model_types::Model;
@@ -28,6 +31,14 @@ pub struct Flat {
     model: Model,
     leaves: Items<Leaf>,
     instances: u32,
+    tables: Tables,
+}
+
+/// What a walk over all nodes of a model finds, and the tables of its nodes.
+#[derive(Drop)]
+struct Layout {
+    walk: Walk,
+    tables: Tables,
 }
 
 impl std::marker::Model for Flat {
@@ -42,7 +53,7 @@ impl std::marker::Model for Flat {
 
     ghost view = { λ f. record { model = f.model; cells = homes_of f.model } };
 
-    ghost invariant = { λ f. AreTablesOf f.model f.leaves f.instances };
+    ghost invariant = { λ f. AreTablesOf f.model f.leaves f.instances f.tables };
 }
 
 /// Goes over all nodes of a model.
@@ -56,19 +67,28 @@ fn visit_all(from: Hierarchy, walk: &mut Walk) -> Result<(), FlatRefused>
 }
 
 /// What a walk over all nodes of a model finds.
-fn walk_of(alloc: Global, model: &Model) -> Result<Walk, FlatRefused>
+fn walk_of(from: Hierarchy) -> Result<Walk, FlatRefused>
+    ensures { EndsWith from.entry.model.now result }
+{
+    let mut walk = Walk::new(from.alloc);
+    visit_all(from, &mut walk)?;
+    Ok(walk)
+}
+
+/// What a walk finds, and the tables of the nodes.
+fn lay(alloc: Global, model: &Model) -> Result<Layout, FlatRefused>
     requires { IsSound model.now }
-    ensures { EndsWith model.now result }
+    ensures { EndsLaid model.now result }
 {
     let numbers = numbers_of(alloc, model.tasks.as_slice())?;
-    let mut walk = Walk::new(alloc);
     let from = Hierarchy {
         alloc,
         model,
         numbers: &numbers,
     };
-    visit_all(from, &mut walk)?;
-    Ok(walk)
+    let walk = walk_of(from)?;
+    let tables = tables_of(from)?;
+    Ok(Layout { walk, tables })
 }
 
 /// Lays a model out.
@@ -81,17 +101,12 @@ pub fn flatten(alloc: Global, model: Model) -> Result<Flat, FlatRefused>
     ensures limits { OnOk result (IsBounded model) }
     ensures limit { (path : List ℕ) (limit : LimitName) → result ≡ Err (FlatRefused.Limit path limit) → IsFirstLimit model path limit }
 {
-    match walk_of(alloc, &model) {
-        Ok(
-            Walk {
-                leaves,
-                instances,
-                ..
-            },
-        ) => Ok(Flat {
+    match lay(alloc, &model) {
+        Ok(Layout { walk, tables }) => Ok(Flat {
             model,
-            leaves,
-            instances: narrowed(instances),
+            leaves: walk.leaves,
+            instances: narrowed(walk.instances),
+            tables,
         }),
         Err(error) => Err(error),
     }
@@ -126,5 +141,56 @@ impl Flat {
         ensures { result ≡ length (instances self.now.model) }
     {
         self.instances
+    }
+
+    /// How many cells there are.
+    pub fn cells(&self) -> u32
+        ensures { result ≡ length self.now.cells }
+    {
+        narrowed(self.tables.cells.count)
+    }
+
+    /// The row of the node with this number.
+    pub(crate) fn row(&self, number: u32) -> NodeRow
+        requires { number < length (nodes self.now.model) }
+        ensures { IsNodeRow self.now.model number result }
+    {
+        self.tables.rows.as_slice()[number as usize]
+    }
+
+    /// The number of the node of a part of a compound node.
+    pub(crate) fn below(&self, number: u32, part: u32) -> u32
+        requires { HasPart self.now.model number part }
+        ensures { IsPartNode self.now.model number part result }
+    {
+        let row = self.tables.rows.as_slice()[number as usize];
+        let steps = self.tables.steps.as_slice()[row.task as usize].as_slice();
+        number + steps[part as usize]
+    }
+
+    /// The cell at which the array at input `port` of a node begins, where it is stored.
+    pub(crate) fn first_of_input(&self, number: u32, port: u32) -> u32
+        requires { HasInput self.now.model number port }
+        ensures { IsFirstOfInput self.now.model number port result }
+    {
+        let begins = self.tables.cells.begins.as_slice()[number as usize];
+        self.tables.cells.firsts.as_slice()[begins.ins + port as usize]
+    }
+
+    /// The cell at which the array at output `port` of a node begins, where it is stored.
+    pub(crate) fn first_of_output(&self, number: u32, port: u32) -> u32
+        requires { HasOutput self.now.model number port }
+        ensures { IsFirstOfOutput self.now.model number port result }
+    {
+        let begins = self.tables.cells.begins.as_slice()[number as usize];
+        self.tables.cells.firsts.as_slice()[begins.outs + port as usize]
+    }
+
+    /// Where the leaf with this number stands.
+    pub(crate) fn leaf_spot(&self, number: u32) -> LeafSpot
+        requires { number < length (leaves self.now.model) }
+        ensures { IsLeafSpot self.now.model number result }
+    {
+        self.tables.spots.as_slice()[number as usize]
     }
 }

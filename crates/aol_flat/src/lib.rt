@@ -5,15 +5,25 @@
 //! `output_value`; the laws of solutions are functions that do nothing.
 #![tactic(auto)]
 
+mod below;
+mod cells;
 mod counts;
+mod cursor;
+mod feed;
 mod flat;
+mod follow;
 mod instance;
 mod laws;
 mod leaf;
 pub mod limits;
+mod nodes;
 mod numbers;
+mod place;
 mod refused;
+mod shared;
 mod spot;
+mod stores;
+mod tables;
 mod view;
 mod visit;
 mod walk;
@@ -30,4 +40,5 @@ pub use laws::{
 };
 pub use leaf::{Leaf, LeafKind};
 pub use refused::FlatRefused;
+pub use shared::types_are_shared;
 pub use view::{End, Read, Reader, Writer};

@@ -7,8 +7,7 @@ use Rattle.aol_flat.specs.Home.{Kept, Constant, home_of}
 use Rattle.aol_flat.specs.Instance.{instances, read_elements, written_elements}
 use Rattle.aol_flat.specs.InstanceNeed.{InstanceNeeds}
 use Rattle.aol_flat.specs.Laid.{Laid, IsCellOf, IsReadOf}
-use Rattle.aol_flat.specs.Level.{with_writer, writers_read, needed_by, WritesCell, AreWriters}
-use Rattle.aol_flat.specs.Net.{Net, IsNetOf}
+use Rattle.aol_flat.specs.Level.{Reads, AreReads, with_writer, writers_read, needed_by, WritesCell, AreWriters}
 use Rattle.aol_flat.specs.Targets.{IsSingleAssignment}
 use Rattle.aol_flat.specs.Accept.{IsSound}
 use Rattle.aol_flat.specs.declared.view.Read.{Read}
@@ -17,6 +16,7 @@ use Rattle.aol_flat.proofs.Agree.{IsAmong-tail}
 use Rattle.aol_flat.proofs.Real.{sound_is_real}
 use Rattle.aol_flat_laws.proofs.Apart.{first_among}
 use Rattle.aol_flat_laws.proofs.OneWriter.{reached_home, read_there, written_there, one_home, written_among, among_written}
+use Rattle.aol_flat_laws.proofs.WrittenHome.{written_home}
 
 -- ---- lists
 
@@ -76,17 +76,17 @@ writer_read list (Cell d ∷ rs) c k (suc i, a) e = go (slice_get list d) (write
 
 -- ---- needs
 
-module _ (f : Laid) (net : Net) (list : List (Option ℕ)) (sound : IsSound f.model) (is_net : IsNetOf f net) (writers : AreWriters f list) (single : IsSingleAssignment f.model) where
-  pub cell_need : (j k : ℕ) → IsAmong (needed_by net.reads list j) k → InstanceNeeds f.model j k
-  cell_need j k a = go (slice_get net.reads j) refl a
+module _ (f : Laid) (reads : Reads) (list : List (Option ℕ)) (sound : IsSound f.model) (are : AreReads f reads) (writers : AreWriters f list) (single : IsSingleAssignment f.model) where
+  pub cell_need : (j k : ℕ) → IsAmong (needed_by reads list j) k → InstanceNeeds f.model j k
+  cell_need j k a = go (slice_get reads j) refl a
     where
-      go : (o : Option (List Read)) → slice_get net.reads j ≡ o → IsAmong (writers_read list (unwrap_or o [])) k → InstanceNeeds f.model j k
+      go : (o : Option (List Read)) → slice_get reads j ≡ o → IsAmong (writers_read list (unwrap_or o [])) k → InstanceNeeds f.model j k
       go None e b = absurd (omega (arith, b.1.0))
       go (Some rs) e b =
           let r = from_cell list rs k b in
-          let within : j < length net.reads = slice_get_within net.reads j rs e in
-          let i = there_at (instances f.model) j (omega (arith, within, is_net.many_reads)) in
-          let p = zip_right (IsReadOf f) (read_elements f.model i.0) rs (Cell r.0) (is_net.reads j i.0 rs i.1 e) r.1 in
+          let within : j < length reads = slice_get_within reads j rs e in
+          let i = there_at (instances f.model) j (omega (arith, within, are.many)) in
+          let p = zip_right (IsReadOf f) (read_elements f.model i.0) rs (Cell r.0) (are.each j rs e i.0 i.1) r.1 in
           let w = (writers.some r.0 k).0 r.2 in
           let both : Some p.2.home ≡ Some w.in_cell.home = sym p.2.at_cell ∙ w.in_cell.at_cell in
           let one : w.in_cell.home ≡ p.2.home = cc in
@@ -105,17 +105,15 @@ module _ (f : Laid) (net : Net) (list : List (Option ℕ)) (sound : IsSound f.mo
                 (w.in_cell.is_home ∙ ap (λ h. Kept h) one);
           }
 
-  pub need_cell : (j k : ℕ) → InstanceNeeds f.model j k → IsAmong (needed_by net.reads list j) k
+  pub need_cell : (j k : ℕ) → InstanceNeeds f.model j k → IsAmong (needed_by reads list j) k
   need_cell j k n =
       let under : j < length (instances f.model) = slice_get_within (instances f.model) j n.reader n.at_reader in
-      let over : k < length (instances f.model) = slice_get_within (instances f.model) k n.writer n.at_writer in
-      let rs = there_at net.reads j (omega (arith, under, is_net.many_reads)) in
-      let cs = there_at net.writes k (omega (arith, over, is_net.many_writes)) in
-      let r = zip_left (IsReadOf f) (read_elements f.model n.reader) rs.0 n.read (is_net.reads j n.reader rs.0 n.at_reader rs.1) n.among_reads in
-      let w = zip_left (IsCellOf f) (written_elements f.model n.writer) cs.0 n.written (is_net.writes k n.writer cs.0 n.at_writer cs.1) n.among_writes in
-      let homes : home_of f.model n.read ≡ Kept w.2.home = reached_home f.model sound n.read n.written n.joined ∙ w.2.is_home in
+      let rs = there_at reads j (omega (arith, under, are.many)) in
+      let r = zip_left (IsReadOf f) (read_elements f.model n.reader) rs.0 n.read (are.each j rs.0 rs.1 n.reader n.at_reader) n.among_reads in
+      let w = written_home f.model sound single n.writer (sound_is_real f.model sound k n.writer n.at_writer) n.written n.among_writes in
+      let homes : home_of f.model n.read ≡ Kept w.0 = reached_home f.model sound n.read n.written n.joined ∙ w.1 in
       let P : Option (List Read) → Type 0 = λ o. IsAmong (writers_read list (unwrap_or o [])) k in
-      subst P (sym rs.1) (go rs.0 w.2.home homes r.0 r.1 r.2)
+      subst P (sym rs.1) (go rs.0 w.0 homes r.0 r.1 r.2)
     where
       go : (rs : List Read) (h : Element) → home_of f.model n.read ≡ Kept h → (y : Read) → IsAmong rs y → IsReadOf f n.read y → IsAmong (writers_read list rs) k
       go rs h homes (Const c) a is = let no : Constant c ≡ Kept h = sym is ∙ homes in cc

@@ -8,8 +8,7 @@ use Rattle.aol_flat.specs.Bridge.{LevelsAreOfModel, LoopsAreCycles}
 use Rattle.aol_flat.specs.Instance.{instances}
 use Rattle.aol_flat.specs.InstanceNeed.{AreLevelsOf, IsInCycle}
 use Rattle.aol_flat.specs.Laid.{Laid}
-use Rattle.aol_flat.specs.Level.{needed_by, above_all, AreLevels, AreWriters, IsInLoop}
-use Rattle.aol_flat.specs.Net.{Net, IsNetOf}
+use Rattle.aol_flat.specs.Level.{Reads, AreReads, needed_by, above_all, AreLevels, AreWriters, IsInLoop}
 use Rattle.aol_flat.specs.Targets.{IsSingleAssignment}
 use Rattle.aol_flat.specs.Accept.{IsSound}
 use Rattle.aol_flat.proofs.Agree.{IsAmong-tail}
@@ -61,44 +60,44 @@ no_level [] j h = absurd (omega (arith, h))
 no_level (x ∷ level) zero h = omega arith
 no_level (x ∷ level) (suc j) h = omega (arith, no_level level j h)
 
-module _ (f : Laid) (net : Net) (list : List (Option ℕ)) (sound : IsSound f.model) (is_net : IsNetOf f net) (writers : AreWriters f list) (single : IsSingleAssignment f.model) where
+module _ (f : Laid) (reads : Reads) (list : List (Option ℕ)) (sound : IsSound f.model) (are : AreReads f reads) (writers : AreWriters f list) (single : IsSingleAssignment f.model) where
   -- ---- levels
 
-  of_cells : (level : List ℕ) → AreLevels net.reads list level → AreLevelsOf f.model level
+  of_cells : (level : List ℕ) → AreLevels reads list level → AreLevelsOf f.model level
   of_cells level h = record {
-    many = h.many ∙ is_net.many_reads;
+    many = h.many ∙ are.many;
     above = λ j k n.
         let under : j < length (instances f.model) = slice_get_within (instances f.model) j n.reader n.at_reader in
-        let each : slice_index level j ≡ above_all level (needed_by net.reads list j) = h.each j (omega (arith, under, is_net.many_reads)) in
-        omega (arith, each, above_each level (needed_by net.reads list j) k (need_cell f net list sound is_net writers single j k n));
+        let each : slice_index level j ≡ above_all level (needed_by reads list j) = h.each j (omega (arith, under, are.many)) in
+        omega (arith, each, above_each level (needed_by reads list j) k (need_cell f reads list sound are writers single j k n));
     least = λ j some.
         let under : j < length level = no_level level j some in
-        let each : slice_index level j ≡ above_all level (needed_by net.reads list j) = h.each j (omega (arith, under, h.many)) in
-        let r = above_one level (needed_by net.reads list j) (omega (arith, each, some)) in
-        (r.0, cell_need f net list sound is_net writers single j r.0 r.1, each ∙ r.2);
+        let each : slice_index level j ≡ above_all level (needed_by reads list j) = h.each j (omega (arith, under, h.many)) in
+        let r = above_one level (needed_by reads list j) (omega (arith, each, some)) in
+        (r.0, cell_need f reads list sound are writers single j r.0 r.1, each ∙ r.2);
   }
 
-  of_model : (level : List ℕ) → AreLevelsOf f.model level → AreLevels net.reads list level
+  of_model : (level : List ℕ) → AreLevelsOf f.model level → AreLevels reads list level
   of_model level h = record {
-    many = h.many ∙ sym is_net.many_reads;
+    many = h.many ∙ sym are.many;
     each = λ j under.
-        above_only level (needed_by net.reads list j) (slice_index level j) (λ k a. h.above j k (cell_need f net list sound is_net writers single j k a))
-        (λ some. let r = h.least j some in (r.0, need_cell f net list sound is_net writers single j r.0 r.1, r.2));
+        above_only level (needed_by reads list j) (slice_index level j) (λ k a. h.above j k (cell_need f reads list sound are writers single j k a))
+        (λ some. let r = h.least j some in (r.0, need_cell f reads list sound are writers single j r.0 r.1, r.2));
   }
 
   -- ---- cycles
 
-  cycle_of : (j : ℕ) → IsInLoop net.reads list j → IsInCycle f.model j
-  cycle_of j l = record { set = l.set; within = l.within; goes_on = λ i a. let r = l.goes_on i a in (r.0, r.1, cell_need f net list sound is_net writers single i r.0 r.2) }
+  cycle_of : (j : ℕ) → IsInLoop reads list j → IsInCycle f.model j
+  cycle_of j l = record { set = l.set; within = l.within; goes_on = λ i a. let r = l.goes_on i a in (r.0, r.1, cell_need f reads list sound are writers single i r.0 r.2) }
 
-  loop_of : (j : ℕ) → IsInCycle f.model j → IsInLoop net.reads list j
-  loop_of j l = record { set = l.set; within = l.within; goes_on = λ i a. let r = l.goes_on i a in (r.0, r.1, need_cell f net list sound is_net writers single i r.0 r.2) }
+  loop_of : (j : ℕ) → IsInCycle f.model j → IsInLoop reads list j
+  loop_of j l = record { set = l.set; within = l.within; goes_on = λ i a. let r = l.goes_on i a in (r.0, r.1, need_cell f reads list sound are writers single i r.0 r.2) }
 
 pub levels_are_of_model : LevelsAreOfModel
-levels_are_of_model f net list sound laid is_net writers single level = (of_cells f net list sound is_net writers single level, of_model f net list sound is_net writers single level)
+levels_are_of_model f reads list sound are writers single level = (of_cells f reads list sound are writers single level, of_model f reads list sound are writers single level)
 
 pub loops_are_cycles : LoopsAreCycles
-loops_are_cycles f net list sound laid is_net writers single j = (
-  λ l. record { in_cycle = cycle_of f net list sound is_net writers single j l.in_loop; first = λ i h c. l.first i h (loop_of f net list sound is_net writers single i c) },
-  λ c. record { in_loop = loop_of f net list sound is_net writers single j c.in_cycle; first = λ i h l. c.first i h (cycle_of f net list sound is_net writers single i l) },
+loops_are_cycles f reads list sound are writers single j = (
+  λ l. record { in_cycle = cycle_of f reads list sound are writers single j l.in_loop; first = λ i h c. l.first i h (loop_of f reads list sound are writers single i c) },
+  λ c. record { in_loop = loop_of f reads list sound are writers single j c.in_cycle; first = λ i h l. c.first i h (cycle_of f reads list sound are writers single i l) },
 )

@@ -1,0 +1,13 @@
+pub mod Rows
+pub mod Stack
+pub mod Moves
+pub mod Ranking
+pub mod Entering
+pub mod Dooming
+pub mod Measure
+pub mod Steps
+pub mod Starting
+pub mod Finding
+pub mod Gathering
+pub mod AddedRow
+pub mod Gathered

@@ -1,0 +1,16 @@
+pub mod Counts
+pub mod WritingRanks
+pub mod Marking
+pub mod Members
+pub mod Collecting
+pub mod FirstFound
+pub mod Fitting
+pub mod TwiceWalk
+pub mod InstancesDiffer
+pub mod ListedCopies
+pub mod CellWriters
+pub mod WriterLists
+pub mod GivenHomes
+pub mod GivenCells
+pub mod ReadingPlaces
+pub mod HolesTold

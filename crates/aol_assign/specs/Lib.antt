@@ -1,0 +1,9 @@
+pub mod Pairs
+pub mod Marks
+pub mod Found
+pub mod Answers
+pub mod Visits
+pub mod Cells
+pub mod WriterList
+pub mod Holes
+pub mod ReadsSoFar

@@ -81,3 +81,6 @@ pub mod Firsts
 mod Standing
 pub mod CellTable
 pub mod Crossing
+pub mod CopyLeaves
+pub mod CopyEnds
+pub mod CopyTargets

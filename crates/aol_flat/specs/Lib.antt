@@ -38,3 +38,4 @@ pub mod Sources
 pub mod Feed
 pub mod Follow
 pub mod Cursor
+pub mod Copies

@@ -102,8 +102,21 @@ pub(crate) fn port_number(ports: &[Port], name: &Name) -> u32
     }
 }
 
+/// The number of the input of a task with this name, which is there.
+pub(crate) fn input_number(task: &Task, name: &Name) -> u32
+    requires there { is_some (port_shape (inputs_of task.now) name.now) ≡ true }
+    requires few { length (inputs_of task.now) < 2 ^ 32 }
+    ensures { IsNumberOf (inputs_of task.now) name.now result }
+{
+    match task {
+        Task::Elementary(task) => port_number(task.ins.as_slice(), name),
+        Task::Compound(task) => port_number(task.ins.as_slice(), name),
+        Task::Repeated(task) => port_number(task.ins.as_slice(), name),
+    }
+}
+
 /// The number of the output of a task with this name, which is there.
-fn output_number(task: &Task, name: &Name) -> u32
+pub(crate) fn output_number(task: &Task, name: &Name) -> u32
     requires there { is_some (port_shape (outputs_of task.now) name.now) ≡ true }
     requires few { length (outputs_of task.now) < 2 ^ 32 }
     ensures { IsNumberOf (outputs_of task.now) name.now result }
@@ -129,7 +142,7 @@ fn is_part_end(task: &Compound, k: usize, port: &Name, end: &Hook) -> bool
 }
 
 /// The number of the first part with this name; that of parts where none has it.
-fn part_number(task: &Compound, name: &Name) -> usize
+pub(crate) fn part_number(task: &Compound, name: &Name) -> usize
     ensures { result ≡ part_number task.now name.now }
 {
     let parts = task.parts.as_slice();

@@ -7,6 +7,7 @@
 
 mod below;
 mod cells;
+mod copies;
 mod counts;
 mod cursor;
 mod feed;

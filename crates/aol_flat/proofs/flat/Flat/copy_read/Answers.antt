@@ -1,0 +1,14 @@
+use Rattle.std.proofs.Common.{◌≡◌, List, [], ◌∷◌, sym, subst}
+use Rattle.std.specs.List.{AllZip}
+use Rattle.aol_flat.specs.Laid.{IsReadOf}
+use Rattle.aol_flat.specs.Place.{Element}
+use Rattle.aol_flat.proofs.CopyLeaves.{copy_reads}
+use Rattle.aol_flat.proofs.flat.Flat.copy_read.Goals as goal
+
+pub returns : goal.returns
+returns c = λ l listed.
+    let f = c.args.self.now in
+    let k = c.copy_at.result in
+    let h = c.copy_at.ensures.copy in
+    let P : List Element → Type 0 = λ es. AllZip (IsReadOf f) es (c.read_of.result ∷ []) in
+    subst P (sym (copy_reads f.model c.copy_at.ensures.flat.sound c.args.leaf c.args.at.now k.number k.task.now k.reshape.now k.around.now k.r.now k.i.now h l listed)) (c.read_of.ensures h.place.node h.place.at_node, tt)

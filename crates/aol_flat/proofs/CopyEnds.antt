@@ -1,8 +1,8 @@
 -- The ends of a copy are elements at listed nodes.
-use Rattle.std.proofs.Common.{◌≡◌, ℕ, ◌<◌, ◌^◌, true, get_or, List, [], ◌∷◌, ◌++◌, length, Option, Some, None, is_some, option_map, unwrap_or, slice_get, sym, ◌∙◌, ap, refl, subst}
+use Rattle.std.proofs.Common.{◌≡◌, ℕ, ◌<◌, ◌^◌, true, get_or, List, [], ◌∷◌, length, Option, Some, None, is_some, option_map, unwrap_or, slice_get, sym, ◌∙◌, ap, refl, subst}
 use Rattle.std.specs.Prelude.{option_and_then}
 use Rattle.std.proofs.lemmas.Option.{slice_get_within}
-use Rattle.aol_shape.specs.Shape.{IsPointOf, IsShape, size, point_at}
+use Rattle.aol_shape.specs.Shape.{IsPointOf, size, point_at}
 use Rattle.aol_tiler.specs.Makers.{IsAddressed}
 use Rattle.aol_tiler.specs.Matrices.{TilerOf}
 use Rattle.aol_tiler.specs.Tiler.{Fits, address, address_point}
@@ -16,7 +16,7 @@ use Rattle.aol_model_types.specs.declared.task.Part.{Part}
 use Rattle.aol_model_types.specs.declared.task.Task.{Task}
 use Rattle.aol_model_types.specs.declared.task.Task.TheVariants as tasks
 use Rattle.aol_model_types.specs.Places.{to_key}
-use Rattle.aol_model_types.specs.Rules.{task_named, inputs_of, outputs_of, inputs_named, outputs_named, port_shape, part_named, copied_checks, gives, takes, source_fits, target_fits, from_shape, to_shape}
+use Rattle.aol_model_types.specs.Rules.{task_named, inputs_of, outputs_of, port_shape, part_named, copied_checks, gives, takes, source_fits, target_fits, from_shape, to_shape}
 use Rattle.aol_model_types.specs.Types.{IsTask, IsCopied}
 use Rattle.aol_flat.specs.Accept.{IsSound}
 use Rattle.aol_flat.specs.Copies.{IsCopyAt, node_of_end, HasEndNode, IsEndNode, IsFitting, HasEnd}
@@ -25,7 +25,7 @@ use Rattle.aol_flat.specs.Follow.{IsElementOf}
 use Rattle.aol_flat.specs.Instance.{end_shape}
 use Rattle.aol_flat.specs.Node.{Node, ToPart, space_around, place_on, task_under, node_task}
 use Rattle.aol_flat.specs.NodeTable.{IsNode}
-use Rattle.aol_flat.specs.Place.{Place, Element, end_element, instance_of_end}
+use Rattle.aol_flat.specs.Place.{Place, end_element, instance_of_end}
 use Rattle.aol_flat.specs.Tasks.{part_number}
 use Rattle.aol_flat.proofs.Among.{get_among}
 use Rattle.aol_flat.proofs.Arrays.{addressed, address_back}

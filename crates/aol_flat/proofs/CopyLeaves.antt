@@ -1,5 +1,5 @@
 -- A leaf that copies stands at a compound node, and its points are the copies of one of its reshapes.
-use Rattle.std.proofs.Common.{◌≡◌, ℕ, zero, suc, ◌+◌, ◌≤◌, ◌<◌, List, [], ◌∷◌, ◌++◌, length, take, drop, map, flat_map, Option, Some, None, slice_get, option_and_then, sym, ◌∙◌, ap, refl, arith, subst, inl, inr}
+use Rattle.std.proofs.Common.{◌≡◌, ℕ, zero, suc, ◌+◌, ◌≤◌, List, [], ◌∷◌, ◌++◌, length, take, drop, map, flat_map, Option, Some, None, slice_get, option_and_then, sym, ◌∙◌, ap, refl, arith, subst, inl, inr}
 use Rattle.std.specs.List.{IsAmong, enumerate_from}
 use Rattle.std.specs.Option.{option_to_list}
 use Rattle.std.proofs.Math.Seq.{take-append_seam, drop-append_seam}
@@ -17,7 +17,7 @@ use Rattle.aol_flat.specs.declared.nodes.LeafSpot.{LeafSpot}
 use Rattle.aol_flat.specs.Copies.{IsCopyAt, IsLeafCopy}
 use Rattle.aol_flat.specs.Cursor.{IsCopyPoint}
 use Rattle.aol_flat.specs.Accept.{IsSound}
-use Rattle.aol_flat.specs.Instance.{Leaf, Computes, Copies, reshape_leaf, leaves_below, leaves, Instance, Copy, instance_on, copy_source, copy_target, read_elements, written_elements}
+use Rattle.aol_flat.specs.Instance.{Leaf, Computes, Copies, reshape_leaf, leaves_below, leaves, Copy, instance_on, copy_source, copy_target, read_elements, written_elements}
 use Rattle.aol_flat.specs.Node.{Node, ToPart, ToBody, space_around, place_on, task_under, node_task}
 use Rattle.aol_flat.specs.NodeTable.{IsNode, IsLeafSpot, reshape_number}
 use Rattle.aol_flat.proofs.Among.{among_append, among_map, among_flat_map, get_among}

@@ -1,5 +1,5 @@
 -- An input of a part to which a reshape leads is stored by itself.
-use Rattle.std.proofs.Common.{◌≡◌, ℕ, ℤ, true, ◌&&◌, List, ◌∷◌, slice_get, Option, Some, None, is_some, sym, ◌∙◌, ap, refl}
+use Rattle.std.proofs.Common.{◌≡◌, ℕ, ℤ, true, ◌&&◌, List, ◌∷◌, slice_get, Some, None, is_some, sym, ◌∙◌, ap, refl}
 use Rattle.std.specs.List.{count_by}
 use Rattle.aol_shape.specs.Lists.{same}
 use Rattle.aol_shape.specs.Shape.{IsPointOf}

@@ -1,4 +1,4 @@
-use Rattle.std.proofs.Common.{◌≡◌, subst, sym, ap, ◌∙◌}
+use Rattle.std.proofs.Common.{subst}
 use Rattle.aol_flat.specs.Instance.{copy_target}
 use Rattle.aol_flat.specs.Laid.{IsReadOf}
 use Rattle.aol_flat.specs.Node.{place_on}

@@ -1,4 +1,4 @@
-use Rattle.std.proofs.Common.{◌≡◌, List, [], ◌∷◌, sym, subst}
+use Rattle.std.proofs.Common.{List, [], ◌∷◌, sym, subst}
 use Rattle.std.specs.List.{AllZip}
 use Rattle.aol_flat.specs.Laid.{IsCellOf}
 use Rattle.aol_flat.specs.Place.{Element}

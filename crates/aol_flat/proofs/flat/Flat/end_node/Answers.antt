@@ -1,4 +1,4 @@
-use Rattle.std.proofs.Common.{rules, ◌≡◌, ◌∙◌, ◌<◌, ◌^◌, ◌∷◌, length, Some, sym, ap, arith}
+use Rattle.std.proofs.Common.{rules, ◌≡◌, ◌∙◌, ◌<◌, ◌^◌, ◌∷◌, Some, sym, ap, arith}
 use Rattle.aol_model_types.specs.declared.task.Task.TheVariants as tasks
 use Rattle.aol_flat.specs.Copies.{node_of_end}
 use Rattle.aol_flat.specs.Node.{ToPart, node_task}

@@ -1,6 +1,4 @@
-use Rattle.std.proofs.Common.{◌≡◌, ◌<◌, length}
 use Rattle.std.proofs.lemmas.Option.{slice_get_within}
-use Rattle.aol_tiler.specs.Makers.{IsAddressed}
 use Rattle.aol_model_types.specs.Rules.{outputs_of}
 use Rattle.aol_flat.specs.Copies.{node_of_end}
 use Rattle.aol_flat.proofs.CopyEnds.{ends_somewhere, end_here, end_port, end_addressed, end_is, copied_limits, found_output}

@@ -1,4 +1,3 @@
-use Rattle.aol_model_types.specs.declared.task.Task.TheVariants as tasks
 use Rattle.aol_flat.proofs.CopyEnds.{has_source_own, has_source_part, around_of}
 use Rattle.aol_flat.proofs.flat.Flat.read_of.Goals as goal
 

@@ -12,3 +12,6 @@ pub mod Fault
 pub mod Answer
 pub mod Answered
 pub mod OneReply
+pub mod Refused
+pub mod ModelAnswer
+pub mod OneRefusal

@@ -7,5 +7,6 @@ pub mod Replies
 pub mod LineWords
 pub mod OneNode
 pub mod OneReply
+pub mod OneRefusal
 pub mod Instances
 pub mod Placements

@@ -18,10 +18,10 @@ use Rattle.aol_cli.specs.Inputs.{Unfit}
 use Rattle.aol_cli.specs.Run.{IsRunReply}
 use Rattle.aol_cli.specs.Answer.{BuiltAnswers, limited, print, wrong_input, run, DocumentAnswers, misfit, unbuilt, built, TreeAnswers, wrong_form, text_limit, document, TextAnswers, no_json, tree, Answers, by_document}
 
-one_found : {A : Type 0} (o : Option A) (a b : A) → o ≡ Some a → o ≡ Some b → a ≡ b
+pub one_found : {A : Type 0} (o : Option A) (a b : A) → o ≡ Some a → o ≡ Some b → a ≡ b
 one_found o a b e f = same_Some a b (sym e ∙ f)
 
-not_both : {A : Type 0} (o : Option A) (a : A) → o ≡ None → o ≡ Some a → ⊥
+pub not_both : {A : Type 0} (o : Option A) (a : A) → o ≡ None → o ≡ Some a → ⊥
 not_both o a e f = none-some a (sym e ∙ f)
 
 not_print : (c : Command) (n : ℕ) → c ≡ Print → c ≡ Run n → ⊥

@@ -1,12 +1,12 @@
 -- A sound model has one refusal, and an accepted one has none.
-use Rattle.std.proofs.Common.{◌≡◌, ℕ, zero, suc, ◌+◌, ◌<◌, ◌≤◌, List, [], ◌∷◌, length, get_or, slice_get, Some, None, refl, sym, ◌∙◌, ap, arith, ◌⊎◌, inl, inr}
+use Rattle.std.proofs.Common.{◌≡◌, ℕ, zero, suc, ◌<◌, ◌≤◌, List, [], ◌∷◌, slice_get, Some, refl, sym, ◌∙◌, ap, arith, ◌⊎◌, inl, inr}
 use Rattle.std.specs.Prelude.{slice_index}
 use Rattle.std.proofs.lemmas.Bool.{cases_order}
 use Rattle.std.proofs.lemmas.List.{ext_get_or}
 use Rattle.aol_shape.specs.declared.limit.LimitName.{LimitName}
 use Rattle.aol_model_types.specs.declared.document.Model.{Model}
 use Rattle.aol_model_types.specs.Places.{limit_text}
-use Rattle.aol_flat.specs.Accept.{IsSound, IsAccepted}
+use Rattle.aol_flat.specs.Accept.{IsSound}
 use Rattle.aol_flat.specs.InstanceNeed.{IsFirstInCycle, AreLevelsOf}
 use Rattle.aol_flat.specs.Node.{Node, node_path}
 use Rattle.aol_flat.specs.Reads.{Reading, readings, IsGiven, AllGiven, IsFirstFailing, IsFirstUnwritten}
@@ -17,10 +17,10 @@ use Rattle.aol_flat.proofs.Real.{accepted_has_no_cycle}
 use Rattle.aol_flat.proofs.Twice.{twice_is_found}
 use Rattle.aol_cli.specs.declared.status.StatusKind.TheVariants as statuses
 use Rattle.aol_cli.specs.Instance.{instance_text}
-use Rattle.aol_cli.specs.ModelAnswer.{ModelRefused, limited, written_twice, unwritten, in_cycle}
+use Rattle.aol_cli.specs.ModelAnswer.{limited, written_twice, unwritten, in_cycle}
 use Rattle.aol_cli.specs.OneRefusal.{OneRefusal, AcceptedIsNotRefused}
 use Rattle.aol_cli.specs.Refused.{reading_words, twice_words}
-use Rattle.aol_cli.specs.Reply.{ReplyOf, refusal}
+use Rattle.aol_cli.specs.Reply.{refusal}
 use Rattle.aol_cli.proofs.OneReply.{one_found, not_both}
 
 -- a list has one first member at which a fact fails
@@ -94,6 +94,6 @@ level_most m level other a b (suc n) j l = told (cases_order 0 (slice_index leve
 pub levels_agree : (m : Model) (level other : List ℕ) → AreLevelsOf m level → AreLevelsOf m other → level ≡ other
 levels_agree m level other a b =
     ext_get_or 0 level other (a.many ∙ sym b.many) (λ j l.
-        let up = level_most m level other a b (slice_index level j) j (omega arith) in
-        let down = level_most m other level b a (slice_index other j) j (omega arith) in
-        omega (arith, up, down))
+    let up = level_most m level other a b (slice_index level j) j (omega arith) in
+    let down = level_most m other level b a (slice_index other j) j (omega arith) in
+    omega (arith, up, down))

@@ -9,3 +9,5 @@ pub mod OneNode
 pub mod OneReply
 pub mod Instances
 pub mod Placements
+pub mod Readers
+pub mod LeafTasks

@@ -43,7 +43,7 @@ fn push_point(text: &mut String, space: &[u32], points: u32, rank: u32) -> Resul
 }
 
 /// The number of the leaf that has the instance with this number.
-fn leaf_with(flat: &Flat, number: u32) -> u32
+pub fn leaf_with(flat: &Flat, number: u32) -> u32
     requires { number < length (instances flat.now.model) }
     ensures { IsInLeaf flat.now.model number result }
 {

@@ -125,7 +125,3 @@ some_there ports k x h none = let both : Some h.port ≡ None = sym h.at ∙ non
 -- the outputs of the main task
 pub output_there : (m : Model) (t : Task) (k x : ℕ) → main_task m ≡ Some t → IsReadBy m Main k x → HasPoint (outputs_of t) k x
 output_there m t k x at h = subst (λ (ps : List Port). HasPoint ps k x) (ap (λ o. unwrap_or (option_map outputs_of o) []) at) (main_point m k x h)
-
--- which is there
-pub main_there : (m : Model) (k x : ℕ) → IsReadBy m Main k x → main_task m ≡ None → ⊥
-main_there m k x h none = some_there [] k x (subst (λ (ps : List Port). HasPoint ps k x) (ap (λ o. unwrap_or (option_map outputs_of o) []) none) (main_point m k x h)) refl

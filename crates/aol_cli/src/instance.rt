@@ -63,6 +63,11 @@ pub fn instance_name(alloc: Global, flat: &Flat, number: u32) -> Result<String, 
 {
     let leaf = flat.leaf(leaf_with(flat, number));
     let mut text = String::from_str(alloc, leaf.path.as_str())?;
-    push_point(&mut text, leaf.space.as_slice(), leaf.count, number - leaf.base)?;
+    push_point(
+        &mut text,
+        leaf.space.as_slice(),
+        leaf.count,
+        number - leaf.base,
+    )?;
     Ok(text)
 }

@@ -65,12 +65,20 @@ pub fn entry_reply(alloc: Global, entry: u32, cause: &PlaceCause) -> Result<Repl
         PlaceCause::Twice(point) => refusal(
             alloc,
             StatusKind::Allocate,
-            &[Word::Number(entry), Word::Text("twice"), Word::Point(point.as_slice())],
+            &[
+                Word::Number(entry),
+                Word::Text("twice"),
+                Word::Point(point.as_slice()),
+            ],
         ),
         PlaceCause::Unplaced(point) => refusal(
             alloc,
             StatusKind::Allocate,
-            &[Word::Number(entry), Word::Text("unplaced"), Word::Point(point.as_slice())],
+            &[
+                Word::Number(entry),
+                Word::Text("unplaced"),
+                Word::Point(point.as_slice()),
+            ],
         ),
     }
 }

@@ -1,4 +1,4 @@
-use Rattle.std.proofs.Common.{◌≡◌, ◌<◌, List, ℕ, [], ◌∷◌, length, Option, Some, None, slice_get, codes, Bor, sym, ◌∙◌, ap, subst, arith}
+use Rattle.std.proofs.Common.{◌≡◌, List, ℕ, [], ◌∷◌, length, Option, Some, None, slice_get, codes, Bor, sym, ◌∙◌, ap, subst, arith}
 use Rattle.std.specs.Prelude.{IfOk}
 use Rattle.std.specs.Option.{option_copied}
 use Rattle.std.proofs.lemmas.Option.{slice_get_within}
@@ -6,7 +6,6 @@ use Rattle.aol_shape.specs.Shape.{point_at}
 use Rattle.aol_vsl.specs.Text.{shape_text}
 use Rattle.aol_expr_tree.specs.declared.port.Port.{Port}
 use Rattle.aol_model_types.specs.declared.document.Model.{Model}
-use Rattle.aol_model_types.specs.declared.task.Task.{Task}
 use Rattle.aol_model_types.specs.Rules.{inputs_of}
 use Rattle.aol_flat.specs.Instance.{leaves, instances}
 use Rattle.aol_cli.specs.declared.status.StatusKind.TheVariants as statuses
@@ -36,7 +35,7 @@ returns-in-Copy c =
     let words : c.as_str.result.now ∷ codes "from" ∷ codes "{}" ∷ [] ≡ instance_text m c.args.instance ∷ input_among m (leaves m) c.args.instance c.args.port c.args.point =
     ap (λ (n : List ℕ). n ∷ codes "from" ∷ codes "{}" ∷ []) (c.as_str.ensures.value ∙ c.in_ok-name.ensures)
     ∙ ap (λ (ws : List (List ℕ)). instance_text m c.args.instance ∷ ws)
-        (copy_input m c.args.instance c.leaf_with.result c.leaf-leaf.result.now c.args.port c.args.point c.leaf_with.ensures c.leaf-leaf.ensures c.in-Copy.is) in
+    (copy_input m c.args.instance c.leaf_with.result c.leaf-leaf.result.now c.args.port c.args.point c.leaf_with.ensures c.leaf-leaf.ensures c.in-Copy.is) in
     subst (λ (ws : List (List ℕ)). IfOk c.refusal.result (λ r. reply_of r ≡ refusal statuses.Unwritten ws)) words c.refusal.ensures
 
 pub bounds-as_slice-number : goal.bounds-as_slice-number
@@ -79,7 +78,7 @@ returns c =
     let o : IsInputOf m c.args.instance c.args.port c.args.point t = input_of m c.args.instance c.args.port c.args.point c.in-Elementary.number t c.as_slice.result.now same c.index-as_slice-number.is i in
     let there : slice_get (inputs_of t) c.args.port ≡ Some c.in-Some.read.now = sym c.input.ensures ∙ ap (λ (o : Option (Bor Port)). option_copied o) c.in-Some.is in
     let words : c.as_str-in-Elementary.result.now ∷ c.in-Some.read.now.name ∷ shape_text (point_at c.in-Some.read.now.shape c.args.point) ∷ []
-        ≡ instance_text m c.args.instance ∷ input_among m (leaves m) c.args.instance c.args.port c.args.point =
+    ≡ instance_text m c.args.instance ∷ input_among m (leaves m) c.args.instance c.args.port c.args.point =
     ap (λ (n : List ℕ). n ∷ c.in-Some.read.now.name ∷ shape_text (point_at c.in-Some.read.now.shape c.args.point) ∷ []) (c.as_str-in-Elementary.ensures.value ∙ c.in_ok-name.ensures)
     ∙ ap (λ (ws : List (List ℕ)). instance_text m c.args.instance ∷ ws) (o.words c.in-Some.read.now there) in
     subst (λ (ws : List (List ℕ)). IfOk c.port_reply.result (λ r. reply_of r ≡ refusal statuses.Unwritten ws)) words c.port_reply.ensures

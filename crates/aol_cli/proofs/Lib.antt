@@ -10,3 +10,5 @@ pub mod OneReply
 pub mod OneRefusal
 pub mod Instances
 pub mod Placements
+pub mod Readers
+pub mod LeafTasks

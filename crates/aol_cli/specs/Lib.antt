@@ -15,3 +15,4 @@ pub mod OneReply
 pub mod Refused
 pub mod ModelAnswer
 pub mod OneRefusal
+pub mod Checked

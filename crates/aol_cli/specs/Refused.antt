@@ -1,5 +1,5 @@
 -- The words of the refusals of a model.
-use Rattle.std.specs.Prelude.{ℕ, ◌-◌, nat_lt, List, [], ◌∷◌, ◌++◌, slice_get, Option, Some, None, option_map, unwrap_or, codes, decimal, if◌then◌else◌}
+use Rattle.std.specs.Prelude.{◌≡◌, ℕ, ◌-◌, nat_lt, List, [], ◌∷◌, ◌++◌, slice_get, Option, Some, None, option_map, unwrap_or, codes, decimal, if◌then◌else◌}
 use Rattle.aol_shape.specs.Shape.{size, point_at}
 use Rattle.aol_vsl.specs.Text.{shape_text}
 use Rattle.aol_expr_tree.specs.declared.port.Port.{Port}
@@ -9,6 +9,7 @@ use Rattle.aol_flat.specs.Tasks.{main_outputs}
 use Rattle.aol_flat.specs.Node.{node_task, node_path}
 use Rattle.aol_flat.specs.Instance.{Leaf, Computes, Copies, leaves}
 use Rattle.aol_flat.specs.Targets.{Target, Twice}
+use Rattle.aol_flat.specs.Reads.{Reading, readings}
 use Rattle.aol_flat.specs.declared.view.Reader.{Reader}
 use Rattle.aol_flat.specs.declared.view.Reader.TheVariants.{Instance, Main}
 use Rattle.aol_flat.specs.declared.view.Writer.{Writer}
@@ -45,3 +46,12 @@ writer_words w more = decimal w.item ∷ shape_text w.rep ∷ shape_text w.patte
 abbrev pub twice_words : Model → Twice → List (List ℕ)
 twice_words m t =
     node_path m t.target.node ∷ target_text t.target.part t.target.port ∷ shape_text t.point ∷ codes "first" ∷ writer_words t.first (codes "second" ∷ writer_words t.second [])
+
+-- at this port and rank the reader reads an element
+pub record IsReadBy (m : Model) (who : Reader) (port rank : ℕ) : Type 0 where
+  pub reading : Reading
+  pub number : ℕ
+  pub at : slice_get (readings m) number ≡ Some reading
+  pub reader : reading.reader ≡ who
+  pub same_port : reading.port ≡ port
+  pub same_rank : reading.rank ≡ rank

@@ -43,7 +43,7 @@ fn push_point(text: &mut String, space: &[u32], points: u32, rank: u32) -> Resul
 }
 
 /// The number of the leaf that has the instance with this number.
-fn leaf_with(flat: &Flat, number: u32) -> u32
+pub fn leaf_with(flat: &Flat, number: u32) -> u32
     requires { number < length (instances flat.now.model) }
     ensures { IsInLeaf flat.now.model number result }
 {
@@ -63,6 +63,11 @@ pub fn instance_name(alloc: Global, flat: &Flat, number: u32) -> Result<String, 
 {
     let leaf = flat.leaf(leaf_with(flat, number));
     let mut text = String::from_str(alloc, leaf.path.as_str())?;
-    push_point(&mut text, leaf.space.as_slice(), leaf.count, number - leaf.base)?;
+    push_point(
+        &mut text,
+        leaf.space.as_slice(),
+        leaf.count,
+        number - leaf.base,
+    )?;
     Ok(text)
 }

@@ -5,6 +5,7 @@
 #![tactic(auto)]
 
 mod answer;
+mod check;
 mod fault;
 mod inputs;
 mod instance;
@@ -15,6 +16,7 @@ mod outputs;
 mod place;
 mod print;
 mod program;
+mod refused;
 mod reply;
 mod run;
 mod status;

@@ -1,14 +1,16 @@
 //! The lines of a placement.
 
-ghost use Rattle.std.specs.Prelude.{◌≡◌, ◌++◌, ◌+◌, ◌<◌, ◌≤◌, ◌^◌, length, take, drop, flat_map, string_bytes, OnOk, IfOk};
+ghost use Rattle.std.specs.Prelude.{◌≡◌, ◌++◌, ◌∷◌, ◌+◌, ◌<◌, ◌≤◌, ◌^◌, length, take, drop, flat_map, decimal, string_bytes, OnOk, IfOk};
 ghost use Rattle.aol_flat.specs.Instance.{instances};
 ghost use Rattle.aol_cli.specs.Placed.{worker_text, place_lines};
-ghost use Rattle.aol_cli.specs.Reply.{reply, reply_of};
+ghost use Rattle.aol_cli.specs.Checked.{cause_words};
+ghost use Rattle.aol_cli.specs.Reply.{refusal, reply, reply_of};
 
+use crate::line::{Word, refusal};
 use crate::reply::Reply;
 use crate::status::StatusKind;
 use crate::text::{push_number, push_text};
-use aol_allocate::Placed;
+use aol_allocate::{PlaceCause, Placed};
 use aol_flat::Flat;
 use aol_shape::NoMemory;
 use std::alloc::Global;
@@ -43,4 +45,40 @@ pub fn place_reply(alloc: Global, flat: &Flat, placed: &Placed) -> Result<Reply,
         status: StatusKind::Done,
         text,
     })
+}
+
+/// The refusal for an entry that places nothing: its number and the cause.
+pub fn entry_reply(alloc: Global, entry: u32, cause: &PlaceCause) -> Result<Reply, NoMemory>
+    ensures { IfOk result (λ r. reply_of r ≡ refusal StatusKind.Allocate (decimal entry ∷ cause_words cause.now)) }
+{
+    match cause {
+        PlaceCause::NoLeaf => refusal(
+            alloc,
+            StatusKind::Allocate,
+            &[Word::Number(entry), Word::Text("no-leaf")],
+        ),
+        PlaceCause::Shape => refusal(
+            alloc,
+            StatusKind::Allocate,
+            &[Word::Number(entry), Word::Text("shape")],
+        ),
+        PlaceCause::Twice(point) => refusal(
+            alloc,
+            StatusKind::Allocate,
+            &[
+                Word::Number(entry),
+                Word::Text("twice"),
+                Word::Point(point.as_slice()),
+            ],
+        ),
+        PlaceCause::Unplaced(point) => refusal(
+            alloc,
+            StatusKind::Allocate,
+            &[
+                Word::Number(entry),
+                Word::Text("unplaced"),
+                Word::Point(point.as_slice()),
+            ],
+        ),
+    }
 }

@@ -1,8 +1,8 @@
 -- One row more.
-use Rattle.std.proofs.Common.{◌≡◌, ◌≤◌, ◌<◌, ◌^◌, ℕ, zero, suc, ◌+◌, ◌-◌, List, [], ◌∷◌, ◌++◌, map, take, drop, length, get_or, slice_range, sym, ◌∙◌, ap, refl, arith, length-append, length-drop, inl, inr}
+use Rattle.std.proofs.Common.{◌≡◌, ◌≤◌, ◌<◌, ◌^◌, ℕ, zero, suc, ◌+◌, ◌-◌, List, [], ◌∷◌, ◌++◌, map, take, drop, length, get_or, slice_range, ◌∙◌, ap, refl, arith, length-append, length-drop, inl, inr}
 use Rattle.std.specs.List.{range_with_len}
 use Rattle.std.proofs.lemmas.Bool.{cases_lt}
-use Rattle.std.proofs.Math.Seq.{get_or-append_seam, drop-append_seam, take-length}
+use Rattle.std.proofs.Math.Seq.{get_or-append_seam, drop-append_seam}
 use Rattle.std.proofs.lemmas.List.{get_or_append_left, take-append-le, drop-append-le, take_all}
 use Rattle.std.proofs.lemmas.List.FromFn.{map-range_with_len_more}
 use Rattle.aol_depend.specs.Rows.{row_at, rows_of, AreStarts}
@@ -40,13 +40,13 @@ has_row starts list row a few =
     let before : (j : ℕ) → j < length starts → get_or all j 0 ≡ get_or starts j 0 = λ j lt. get_or_append_left starts (e ∷ []) 0 j lt in
     let last : get_or all n 0 ≡ length list = before n (omega (arith, a.some)) ∙ a.last in
     let old : (j : ℕ) → 0 ≤ j → j < 0 + n → row_at all (list ++ row) j ≡ row_at starts list j =
-        λ j low high.
-            (let s : get_or all j 0 ≡ get_or starts j 0 = before j (omega (arith, high)) in
-            let t : get_or all (j + 1) 0 ≡ get_or starts (j + 1) 0 = before (j + 1) (omega (arith, high)) in
-            ap (λ k. slice_range (list ++ row) k (get_or all (j + 1) 0)) s ∙ ap (slice_range (list ++ row) (get_or starts j 0)) t
-            ∙ part_stays list row (get_or starts j 0) (get_or starts (j + 1) 0) (a.ascend j (omega (arith, high))) (within-list starts list a (length starts - (j + 1) - 1) (j + 1) (omega (arith, high)))) in
+    λ j low high.
+    (let s : get_or all j 0 ≡ get_or starts j 0 = before j (omega (arith, high)) in
+    let t : get_or all (j + 1) 0 ≡ get_or starts (j + 1) 0 = before (j + 1) (omega (arith, high)) in
+    ap (λ k. slice_range (list ++ row) k (get_or all (j + 1) 0)) s ∙ ap (slice_range (list ++ row) (get_or starts j 0)) t
+    ∙ part_stays list row (get_or starts j 0) (get_or starts (j + 1) 0) (a.ascend j (omega (arith, high))) (within-list starts list a (length starts - (j + 1) - 1) (j + 1) (omega (arith, high)))) in
     let new : row_at all (list ++ row) n ≡ row =
-        ap (λ k. slice_range (list ++ row) k (get_or all (n + 1) 0)) last ∙ ap (slice_range (list ++ row) (length list)) end ∙ part_added list row in
+    ap (λ k. slice_range (list ++ row) k (get_or all (n + 1) 0)) last ∙ ap (slice_range (list ++ row) (length list)) end ∙ part_added list row in
     record {
       ascend = record {
         some = omega (arith, many);

@@ -1,11 +1,11 @@
 -- All open instances are doomed: each needs the next, and the last needs one that is open or doomed.
-use Rattle.std.proofs.Common.{◌≡◌, ◌≢◌, ℕ, zero, suc, ◌+◌, ◌<◌, ◌≤◌, Bool, List, [], ◌∷◌, map, length, slice_get, set, get_or, Option, Some, refl, sym, ◌∙◌, ap, arith, ◌⊎◌, inl, inr, length-set, subst, cond, false}
+use Rattle.std.proofs.Common.{◌≡◌, ℕ, ◌<◌, ◌≤◌, List, [], ◌∷◌, map, length, slice_get, set, get_or, Some, refl, sym, ◌∙◌, ap, arith, ◌⊎◌, inl, inr, length-set, subst, cond, false}
 use Rattle.std.specs.List.{IsAmong, count_by}
 use Rattle.std.proofs.lemmas.Bool.{cases_eq}
 use Rattle.std.proofs.lemmas.Option.{slice_get_within, slice_get-get_or}
 use Rattle.aol_flat.proofs.Agree.{IsAmong-tail}
 use Rattle.aol_depend.specs.declared.search.Mark.{Mark}
-use Rattle.aol_depend.specs.declared.search.Mark.TheVariants.{New, Open, Ranked, Doomed}
+use Rattle.aol_depend.specs.declared.search.Mark.TheVariants.{Open, Ranked, Doomed}
 use Rattle.aol_depend.specs.declared.search.Visit.{Visit}
 use Rattle.aol_depend.specs.Needs.{Rows, row}
 use Rattle.aol_depend.specs.Search.{AreOpen, is_ranked, is_new, IsAt, doomed}
@@ -47,12 +47,12 @@ doomed_back marks [] j m h = inl h
 doomed_back marks (v ∷ vs) j m h =
     elim (doomed_back (set marks v.instance Doomed) vs j m h) [
       | inl before ↦ elim (cases_eq j v.instance) [
-          | inl e ↦ inr (let within = slice_get_within (set marks v.instance Doomed) j m before in
-              let same : Some m ≡ Some Doomed = sym before ∙ ap (slice_get (set marks v.instance Doomed)) e ∙ get-set_same marks v.instance Doomed (omega (arith, within, length-set marks v.instance Doomed, e)) in
-              let is : m ≡ Doomed = cc in
-              (is, (0, (omega arith, e))))
-          | inr ne ↦ inl (sym (get-set_other marks v.instance j Doomed ne) ∙ before)
-        ]
+        | inl e ↦ inr (let within = slice_get_within (set marks v.instance Doomed) j m before in
+            let same : Some m ≡ Some Doomed = sym before ∙ ap (slice_get (set marks v.instance Doomed)) e ∙ get-set_same marks v.instance Doomed (omega (arith, within, length-set marks v.instance Doomed, e)) in
+            let is : m ≡ Doomed = cc in
+            (is, (0, (omega arith, e))))
+        | inr ne ↦ inl (sym (get-set_other marks v.instance j Doomed ne) ∙ before)
+      ]
       | inr r ↦ inr (r.0, IsAmong-tail v.instance (names vs) j r.1)
     ]
 
@@ -87,9 +87,9 @@ count-doomed marks (v ∷ vs) un =
     let here = un v.instance (0, (omega arith, refl)) in
     let one = count-set is_ranked marks v.instance here.0 Doomed here.1 in
     let rest : AreUnranked (set marks v.instance Doomed) vs = λ j a. elim (cases_eq j v.instance) [
-          | inl e ↦ (Doomed, ap (slice_get (set marks v.instance Doomed)) e ∙ get-set_same marks v.instance Doomed (slice_get_within marks v.instance here.0 here.1), refl)
-          | inr ne ↦ let r = un j (IsAmong-tail v.instance (names vs) j a) in (r.0, get-set_other marks v.instance j Doomed ne ∙ r.1, r.2)
-        ] in
+      | inl e ↦ (Doomed, ap (slice_get (set marks v.instance Doomed)) e ∙ get-set_same marks v.instance Doomed (slice_get_within marks v.instance here.0 here.1), refl)
+      | inr ne ↦ let r = un j (IsAmong-tail v.instance (names vs) j a) in (r.0, get-set_other marks v.instance j Doomed ne ∙ r.1, r.2)
+    ] in
     let later = count-doomed (set marks v.instance Doomed) vs rest in
     let unit : ℕ = 1 in
     let none : cond (is_ranked here.0) unit 0 ≡ 0 = ap (λ b. cond b unit 0) here.2 in
@@ -111,16 +111,16 @@ all_are_doomed needs marks levels count v vs k h needed at =
     let others = doomed marks (v ∷ vs) in
     let opened : (j : ℕ) → IsAmong (names (v ∷ vs)) j → slice_get marks j ≡ Some Open = open_named needs marks levels (v ∷ vs) h.chain in
     let doom : (j : ℕ) → IsAmong (names (v ∷ vs)) j → slice_get others j ≡ Some Doomed =
-        λ j a. doomed_among marks (v ∷ vs) j (slice_get_within marks j Open (opened j a)) a in
+    λ j a. doomed_among marks (v ∷ vs) j (slice_get_within marks j Open (opened j a)) a in
     let last : slice_get others k ≡ Some Doomed = elim at [
-          | inl is ↦ doom k (h.opens k is)
-          | inr is ↦ doomed_stays marks (v ∷ vs) k is
-        ] in
+      | inl is ↦ doom k (h.opens k is)
+      | inr is ↦ doomed_stays marks (v ∷ vs) k is
+    ] in
     let kept : (j : ℕ) → slice_get marks j ≡ Some Ranked → slice_get others j ≡ Some Ranked =
-        λ j is. doomed_other marks (v ∷ vs) j (λ a. (let e = unlike marks j Open Ranked (opened j a) is in cc)) ∙ is in
+    λ j is. doomed_other marks (v ∷ vs) j (λ a. (let e = unlike marks j Open Ranked (opened j a) is in cc)) ∙ is in
     let g : Grows marks others levels levels = record { keeps = λ j is. (kept j is, refl) } in
     let before : (j : ℕ) → slice_get others j ≡ Some Ranked → slice_get marks j ≡ Some Ranked =
-        λ j is. elim (doomed_back marks (v ∷ vs) j Ranked is) [ inl b ↦ b | inr r ↦ absurd (let e = r.0 in cc) ] in
+    λ j is. elim (doomed_back marks (v ∷ vs) j Ranked is) [ inl b ↦ b | inr r ↦ absurd (let e = r.0 in cc) ] in
     record {
       within = h.within;
       few = h.few;

@@ -1,17 +1,17 @@
 -- A new instance is entered, and one that has a level is passed.
-use Rattle.std.proofs.Common.{◌≡◌, ◌≢◌, ℕ, zero, suc, ◌+◌, ◌<◌, ◌≤◌, max, Bool, List, [], ◌∷◌, ◌++◌, map, take, length, slice_get, set, get_or, unwrap_or, Option, Some, refl, sym, ◌∙◌, ap, arith, ◌⊎◌, inl, inr, length-set, subst}
-use Rattle.std.specs.List.{IsAmong, count_by}
+use Rattle.std.proofs.Common.{◌≡◌, ◌≢◌, ℕ, ◌+◌, ◌<◌, max, List, [], ◌∷◌, ◌++◌, map, take, length, slice_get, set, get_or, Some, refl, sym, ◌∙◌, ap, arith, inl, inr, length-set, subst}
+use Rattle.std.specs.List.{IsAmong}
 use Rattle.std.proofs.lemmas.Bool.{cases_eq}
 use Rattle.std.proofs.lemmas.List.{take_more}
 use Rattle.std.proofs.lemmas.Option.{slice_get_within, get_or_from_slice_get}
 use Rattle.aol_flat.specs.Level.{above_all}
 use Rattle.aol_flat.proofs.Agree.{IsAmong-tail}
-use Rattle.aol_flat.proofs.Among.{among_append, get_among}
+use Rattle.aol_flat.proofs.Among.{among_append}
 use Rattle.aol_depend.specs.declared.search.Mark.{Mark}
 use Rattle.aol_depend.specs.declared.search.Mark.TheVariants.{New, Open, Ranked, Doomed}
 use Rattle.aol_depend.specs.declared.search.Visit.{Visit}
 use Rattle.aol_depend.specs.Needs.{Rows, row}
-use Rattle.aol_depend.specs.Search.{AreRanked, IsNeeded, AreOpen, is_ranked, IsAt}
+use Rattle.aol_depend.specs.Search.{IsNeeded, is_ranked, IsAt}
 use Rattle.aol_depend.proofs.Moves.{get-set_same, get-set_other, get-set_stays, above_all-push, Grows, level_stays, open_stay, open_at, among_cases}
 use Rattle.aol_depend.proofs.Ranking.{count-set}
 
@@ -29,7 +29,7 @@ entered needs marks levels count k stack h at needed =
     let within : k < length marks = slice_get_within marks k New at in
     let before : (j : ℕ) (m : Mark) → j ≢ k → slice_get (set marks k Open) j ≡ Some m → slice_get marks j ≡ Some m = λ j m ne e. sym (get-set_other marks k j Open ne) ∙ e in
     let here : (j : ℕ) (m : Mark) → j ≡ k → slice_get (set marks k Open) j ≡ Some m → Open ≡ m =
-        λ j m e there. (let same : Some Open ≡ Some m = sym (get-set_same marks k Open within) ∙ ap (slice_get (set marks k Open)) (sym e) ∙ there in cc) in
+    λ j m e there. (let same : Some Open ≡ Some m = sym (get-set_same marks k Open within) ∙ ap (slice_get (set marks k Open)) (sym e) ∙ there in cc) in
     record {
       within = h.within;
       few = h.few;
@@ -62,7 +62,7 @@ entered needs marks levels count k stack h at needed =
         },
         needed,
         λ u a e. (let same : Some Open ≡ Some New = sym (open_at needs marks levels stack h.chain u a) ∙ ap (slice_get marks) e ∙ at in cc),
-        open_stay g needs stack (λ u a. get-set_stays marks k u.instance Open New Open at (open_at needs marks levels stack h.chain u a) (λ e. cc)) h.chain
+        open_stay g needs stack (λ u a. get-set_stays marks k u.instance Open New Open at (open_at needs marks levels stack h.chain u a) (λ e. cc)) h.chain,
       );
     }
 
@@ -98,12 +98,14 @@ passed needs marks levels count k v vs h next at =
               elim (among_append (take v.next (row needs v.instance)) (k ∷ []) j (subst P more a)) [
                 | inl seen ↦ visit.seen j seen
                 | inr last ↦ elim (among_cases k [] j last) [
-                    | inl e ↦ ap (slice_get marks) e ∙ at
-                    | inr none ↦ absurd (omega (arith, none.1.0))
-                  ]
+                  | inl e ↦ ap (slice_get marks) e ∙ at
+                  | inr none ↦ absurd (omega (arith, none.1.0))
+                ]
               ];
           level = ap (λ n. max n (get_or levels k 0 + 1)) visit.level ∙ sym (above_all-push levels (take v.next (row needs v.instance)) k) ∙ sym (ap (above_all levels) more);
         },
-        h.chain.1, h.chain.2, h.chain.3
+        h.chain.1,
+        h.chain.2,
+        h.chain.3,
       );
     }

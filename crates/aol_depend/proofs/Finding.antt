@@ -1,9 +1,8 @@
 -- What a search has found at its end.
-use Rattle.std.proofs.Common.{◌≡◌, ◌≢◌, ◌<◌, ◌^◌, fold, max, ℕ, zero, suc, ◌+◌, List, [], ◌∷◌, length, slice_get, get_or, set, Option, Some, None, ap, sym, ◌∙◌, arith, refl, subst, ◌⊎◌, inl, inr}
+use Rattle.std.proofs.Common.{◌≡◌, ◌<◌, ◌^◌, fold, max, ℕ, zero, suc, ◌+◌, List, [], ◌∷◌, length, slice_get, get_or, Some, ap, ◌∙◌, arith, refl, subst}
 use Rattle.std.specs.List.{IsAmong}
 use Rattle.std.proofs.lemmas.List.Sums.{count_by-le-length}
-use Rattle.std.proofs.lemmas.Option.{slice_get-get_or, slice_get_within}
-use Rattle.aol_flat.specs.Level.{above_all}
+use Rattle.std.proofs.lemmas.Option.{slice_get-get_or}
 use Rattle.aol_flat.proofs.Agree.{IsAmong-tail}
 use Rattle.aol_depend.specs.declared.search.Mark.{Mark}
 use Rattle.aol_depend.specs.declared.search.Mark.TheVariants.{New, Open, Ranked, Doomed}

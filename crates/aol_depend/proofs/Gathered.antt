@@ -1,19 +1,18 @@
 -- The needs of one instance after another.
-use Rattle.std.proofs.Common.{◌≡◌, ◌≤◌, ◌<◌, ◌^◌, ℕ, zero, suc, ◌+◌, ◌-◌, List, [], ◌∷◌, ◌++◌, map, length, get_or, slice_get, Option, Some, None, unwrap_or, option_map, sym, ◌∙◌, ap, refl, subst, arith, length-append, inl, inr}
+use Rattle.std.proofs.Common.{◌≡◌, ◌≤◌, ◌<◌, ◌^◌, ℕ, zero, suc, ◌+◌, List, [], ◌∷◌, ◌++◌, map, length, slice_get, Option, Some, None, Result, Ok, Err, IfOk, unwrap_or, option_map, sym, ◌∙◌, ap, refl, subst, arith, length-append, inl, inr}
 use Rattle.std.specs.List.{IsAmong, AllZip}
 use Rattle.std.proofs.lemmas.Bool.{cases_lt}
 use Rattle.std.proofs.lemmas.List.{map-append, length-map}
 use Rattle.std.proofs.lemmas.Option.{slice_get_within, slice_get-map}
 use Rattle.aol_flat.specs.Place.{Element}
-use Rattle.aol_flat.specs.Instance.{Instance, instances, read_elements}
-use Rattle.aol_flat.specs.Laid.{Laid, IsReadOf, IsCellOf}
-use Rattle.aol_flat.specs.Level.{Reads, AreReadsOf, AreReads, writers_read, with_writer}
+use Rattle.aol_flat.specs.Instance.{instances}
+use Rattle.aol_flat.specs.Laid.{Laid, IsReadOf}
+use Rattle.aol_flat.specs.Level.{Reads, AreReadsOf, AreReads, writers_read, with_writer, needed_by, above_all, AreLevels, IsInLoop, IsFirstInLoop}
 use Rattle.aol_flat.specs.declared.view.Read.{Read}
 use Rattle.aol_flat.specs.declared.view.Read.TheVariants.{Cell, Const}
-use Rattle.aol_flat.proofs.Names.{slice_get-left, slice_get-right}
-use Rattle.aol_flat.proofs.Among.{get_among}
-use Rattle.aol_depend.specs.Needs.{Rows, row, AreWithin}
-use Rattle.aol_depend.specs.Rows.{AreStarts, rows_of}
+use Rattle.aol_flat.proofs.Names.{slice_get-right}
+use Rattle.aol_depend.specs.Needs.{Rows, row, AreWithin, HaveLevels, IsCircling, IsFirstCircling}
+use Rattle.aol_depend.specs.Rows.{rows_of}
 use Rattle.aol_depend.specs.Gather.{IsInList, AreEntries, AreGathered, AreNeeds}
 use Rattle.aol_depend.proofs.Rows.{length-rows_of}
 use Rattle.aol_depend.proofs.AddedRow.{has_row}
@@ -104,3 +103,51 @@ needs_within f list needs entries n j k a =
     go : (o : Option (List Read)) → slice_get needs j ≡ option_map (writers_read list) o → length needs ≡ length (instances f.model) → IsAmong (row needs j) k → k < length needs
     go None e many b = let P : Option (List ℕ) → Type 0 = λ r. IsAmong (unwrap_or r []) k in absurd (let h = subst P e b in omega (arith, h.1.0))
     go (Some rs) e many b = let P : Option (List ℕ) → Type 0 = λ r. IsAmong (unwrap_or r []) k in omega (arith, many, writer_within f list rs k entries (subst P e b))
+
+-- levels and circles of the needs are those of the reads
+needed_is : (reads : Reads) (list : List (Option ℕ)) (needs : Rows) (j : ℕ) → needs ≡ map (writers_read list) reads → row needs j ≡ needed_by reads list j
+needed_is reads list needs j e = ap (λ (rows : Rows). unwrap_or (slice_get rows j) []) e ∙ ap (λ o. unwrap_or o []) (slice_get-map (writers_read list) reads j) ∙ go (slice_get reads j)
+  where
+    go : (o : Option (List Read)) → unwrap_or (option_map (writers_read list) o) [] ≡ writers_read list (unwrap_or o [])
+    go None = refl
+    go (Some rs) = refl
+
+pub levels_by_reads : (f : Laid) (list : List (Option ℕ)) (needs : Rows) (level : List ℕ) → AreNeeds f list needs → HaveLevels needs level → (reads : Reads) × AreReads f reads × AreLevels reads list level
+levels_by_reads f list needs level n h =
+    let many : length needs ≡ length n.0 = ap length n.2 ∙ length-map n.0 (writers_read list) in (
+      n.0,
+      n.1,
+      record {
+        many = h.many ∙ many;
+        each = λ j within. h.each j (omega (arith, within, many)) ∙ ap (above_all level) (needed_is n.0 list needs j n.2);
+      },
+    )
+
+circles : (reads : Reads) (list : List (Option ℕ)) (needs : Rows) (j : ℕ) → needs ≡ map (writers_read list) reads → IsCircling needs j → IsInLoop reads list j
+circles reads list needs j e c = record {
+  set = c.set;
+  within = c.within;
+  goes_on = λ i a. let r = c.goes_on i a in let P : List ℕ → Type 0 = λ ks. IsAmong ks r.0 in (r.0, r.1, subst P (needed_is reads list needs i e) r.2);
+}
+
+loops : (reads : Reads) (list : List (Option ℕ)) (needs : Rows) (j : ℕ) → needs ≡ map (writers_read list) reads → IsInLoop reads list j → IsCircling needs j
+loops reads list needs j e c = record {
+  set = c.set;
+  within = c.within;
+  goes_on = λ i a. let r = c.goes_on i a in let P : List ℕ → Type 0 = λ ks. IsAmong ks r.0 in (r.0, r.1, subst P (sym (needed_is reads list needs i e)) r.2);
+}
+
+pub loop_by_reads : (f : Laid) (list : List (Option ℕ)) (needs : Rows) (j : ℕ) → AreNeeds f list needs → IsFirstCircling needs j → (reads : Reads) × AreReads f reads × IsFirstInLoop reads list j
+loop_by_reads f list needs j n h = (
+  n.0,
+  n.1,
+  record {
+    in_loop = circles n.0 list needs j n.2 h.circling;
+    first = λ i lt l. h.first i lt (loops n.0 list needs i n.2 l);
+  },
+)
+
+-- what a value has, another fact follows from
+pub weaker_ok : {A E : Type 0} (r : Result A E) {P Q : A → Type 0} → ((a : A) → P a → Q a) → IfOk r P → IfOk r Q
+weaker_ok (Err e) f h = tt
+weaker_ok (Ok a) f h = f a h

@@ -1,4 +1,5 @@
 pub mod Rows
+pub mod LeafRows
 pub mod Stack
 pub mod Moves
 pub mod Ranking

@@ -1,10 +1,10 @@
 -- Each step leaves fewer.
-use Rattle.std.proofs.Common.{◌≡◌, ℕ, zero, suc, ◌+◌, ◌-◌, ◌*◌, ◌<◌, ◌≤◌, cond, List, [], ◌∷◌, map, length, slice_get, set, get_or, unwrap_or, Option, Some, refl, sym, ◌∙◌, ap, arith, length-set}
+use Rattle.std.proofs.Common.{◌≡◌, ℕ, zero, suc, ◌+◌, ◌*◌, ◌<◌, ◌≤◌, List, [], ◌∷◌, length, slice_get, set, Some, ap, arith}
 use Rattle.std.specs.List.{IsAmong, count_by, sum_by}
 use Rattle.std.proofs.Math.Nat.{mul-le-mul_left}
 use Rattle.std.proofs.lemmas.List.Sums.{sum_by-cons}
 use Rattle.aol_depend.specs.declared.search.Mark.{Mark}
-use Rattle.aol_depend.specs.declared.search.Mark.TheVariants.{New, Open, Ranked, Doomed}
+use Rattle.aol_depend.specs.declared.search.Mark.TheVariants.{New, Open, Ranked}
 use Rattle.aol_depend.specs.declared.search.Visit.{Visit}
 use Rattle.aol_depend.specs.Needs.{Rows, row}
 use Rattle.aol_depend.specs.Search.{is_new, doomed, steps_of, steps_left}

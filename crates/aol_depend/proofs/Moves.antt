@@ -1,18 +1,16 @@
 -- One step of a search for levels.
-use Rattle.std.proofs.Common.{◌≡◌, ◌≢◌, ℕ, zero, suc, ◌+◌, ◌-◌, ◌*◌, ◌<◌, ◌≤◌, max, Bool, true, false, List, [], ◌∷◌, ◌++◌, map, take, length, slice_get, set, get_or, Option, Some, None, unwrap_or, refl, sym, ◌∙◌, ap, subst, arith, ◌⊎◌, inl, inr, length-set, get_or-set_other, get_or-set_same}
-use Rattle.std.specs.List.{IsAmong, count_by}
+use Rattle.std.proofs.Common.{◌≡◌, ◌≢◌, ℕ, zero, suc, ◌+◌, ◌<◌, ◌≤◌, max, List, [], ◌∷◌, ◌++◌, map, take, length, slice_get, set, get_or, Some, refl, sym, ◌∙◌, ap, subst, arith, ◌⊎◌, inl, inr, length-set, get_or-set_same}
+use Rattle.std.specs.List.{IsAmong}
 use Rattle.std.proofs.lemmas.Bool.{cases_eq}
-use Rattle.std.proofs.lemmas.List.{take_more, length-take}
-use Rattle.std.proofs.lemmas.List.Sums.{sum_by-set}
-use Rattle.std.proofs.lemmas.Option.{slice_get_within, slice_get-get_or, get_or_from_slice_get}
+use Rattle.std.proofs.lemmas.Option.{slice_get-get_or}
 use Rattle.aol_flat.proofs.Agree.{IsAmong-tail}
-use Rattle.aol_flat.proofs.Among.{among_append, get_among, map_among, among_map}
+use Rattle.aol_flat.proofs.Among.{among_map}
 use Rattle.aol_flat.specs.Level.{above_all}
 use Rattle.aol_depend.specs.declared.search.Mark.{Mark}
-use Rattle.aol_depend.specs.declared.search.Mark.TheVariants.{New, Open, Ranked, Doomed}
+use Rattle.aol_depend.specs.declared.search.Mark.TheVariants.{Open, Ranked}
 use Rattle.aol_depend.specs.declared.search.Visit.{Visit}
-use Rattle.aol_depend.specs.Needs.{Rows, row, AreWithin}
-use Rattle.aol_depend.specs.Search.{AreRanked, HasLevel, IsVisit, IsNeeded, IsApart, AreOpen, is_ranked, is_new, IsAt, doomed}
+use Rattle.aol_depend.specs.Needs.{Rows, row}
+use Rattle.aol_depend.specs.Search.{AreRanked, HasLevel, IsVisit, AreOpen, IsAt}
 
 -- ---- lists
 

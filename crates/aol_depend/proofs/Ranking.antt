@@ -1,5 +1,5 @@
 -- The last open instance gets its level.
-use Rattle.std.proofs.Common.{◌≡◌, ◌≢◌, ℕ, zero, suc, ◌+◌, ◌<◌, ◌≤◌, cond, Bool, List, [], ◌∷◌, map, take, length, slice_get, set, get_or, Option, Some, refl, sym, ◌∙◌, ap, arith, ◌⊎◌, inl, inr, length-set, get_or-set_other, get_or-set_same, subst}
+use Rattle.std.proofs.Common.{◌≡◌, ◌≢◌, ℕ, ◌+◌, ◌<◌, ◌≤◌, cond, Bool, List, ◌∷◌, map, take, length, slice_get, set, get_or, Some, sym, ◌∙◌, ap, arith, inl, inr, length-set, get_or-set_other, get_or-set_same, subst}
 use Rattle.std.specs.List.{IsAmong, count_by}
 use Rattle.std.proofs.lemmas.Bool.{cases_eq}
 use Rattle.std.proofs.lemmas.List.{take_all}
@@ -7,11 +7,11 @@ use Rattle.std.proofs.lemmas.List.Sums.{sum_by-set}
 use Rattle.std.proofs.lemmas.Option.{slice_get_within, get_or_from_slice_get}
 use Rattle.aol_flat.specs.Level.{above_all}
 use Rattle.aol_depend.specs.declared.search.Mark.{Mark}
-use Rattle.aol_depend.specs.declared.search.Mark.TheVariants.{New, Open, Ranked, Doomed}
+use Rattle.aol_depend.specs.declared.search.Mark.TheVariants.{Open, Ranked, Doomed}
 use Rattle.aol_depend.specs.declared.search.Visit.{Visit}
 use Rattle.aol_depend.specs.Needs.{Rows, row}
-use Rattle.aol_depend.specs.Search.{AreRanked, HasLevel, AreOpen, is_ranked, IsAt}
-use Rattle.aol_depend.proofs.Moves.{get-set_same, get-set_other, get-set_stays, above_all-low, Grows, level_stays, level_same, open_stay, open_at, unlike, among_cases, ranked_stay}
+use Rattle.aol_depend.specs.Search.{AreRanked, HasLevel, is_ranked, IsAt}
+use Rattle.aol_depend.proofs.Moves.{get-set_same, get-set_other, get-set_stays, above_all-low, Grows, level_stays, level_same, open_stay, open_at, among_cases, ranked_stay}
 
 -- how many are marked so, after one mark is changed
 pub count-set : (p : Mark → Bool) (marks : List Mark) (i : ℕ) (old new : Mark) → slice_get marks i ≡ Some old → count_by p (set marks i new) + cond (p old) 1 0 ≡ count_by p marks + cond (p new) 1 0
@@ -38,7 +38,7 @@ ranked needs marks levels count v vs h all =
     let whole : take v.next (row needs i) ≡ row needs i = take_all v.next (row needs i) all in
     let seen : AreRanked marks (row needs i) = λ k a. visit.seen k (let P : List ℕ → Type 0 = λ ks. IsAmong ks k in subst P (sym whole) a) in
     let level : get_or (set levels i v.level) i 0 ≡ above_all levels (row needs i) =
-        get_or-set_same levels i v.level 0 (omega (arith, h.many_levels, h.many_marks)) ∙ visit.level ∙ ap (above_all levels) whole in
+    get_or-set_same levels i v.level 0 (omega (arith, h.many_levels, h.many_marks)) ∙ visit.level ∙ ap (above_all levels) whole in
     record {
       within = h.within;
       few = h.few;
@@ -64,9 +64,9 @@ ranked needs marks levels count v vs h all =
       opens = λ j at. elim (cases_eq j i) [
         | inl e ↦ absurd (let same : Some Ranked ≡ Some Open = sym (get-set_same marks i Ranked within) ∙ ap (slice_get (set marks i Ranked)) (sym e) ∙ at in cc)
         | inr ne ↦ elim (among_cases i (map (λ (u : Visit). u.instance) vs) j (h.opens j (sym (get-set_other marks i j Ranked ne) ∙ at))) [
-            | inl e ↦ absurd (ne e)
-            | inr later ↦ later
-          ]
+          | inl e ↦ absurd (ne e)
+          | inr later ↦ later
+        ]
       ];
       chain = open_stay g needs vs (λ u a. get-set_other marks i u.instance Ranked (h.chain.2 u a) ∙ open_at needs marks levels vs h.chain.3 u a) h.chain.3;
     }

@@ -1,5 +1,5 @@
 -- Rows of numbers in one list.
-use Rattle.std.proofs.Common.{slice_range, ◌≡◌, ◌≤◌, ◌<◌, ℕ, zero, suc, ◌+◌, ◌-◌, List, [], length, get_or, Some, slice_get, sym, ◌∙◌, ap, arith, refl}
+use Rattle.std.proofs.Common.{slice_range, ◌≡◌, ◌≤◌, ◌<◌, ℕ, zero, suc, ◌+◌, ◌-◌, List, [], length, get_or, Some, slice_get, sym, ◌∙◌, ap, arith}
 use Rattle.std.proofs.lemmas.List.FromFn.{get_or-map-range_with_len, length-map-range_with_len}
 use Rattle.std.proofs.lemmas.Option.{slice_get-get_or}
 use Rattle.std.proofs.lemmas.Grind.{get_or_default_zero}

@@ -1,6 +1,5 @@
 -- A search that has not begun.
-use Rattle.std.proofs.Common.{◌≡◌, ◌<◌, ◌^◌, ℕ, zero, suc, ◌*◌, List, [], ◌∷◌, length, replicate, slice_get, Some, ap, sym, ◌∙◌, arith, refl, subst, cond}
-use Rattle.std.specs.List.{count_by}
+use Rattle.std.proofs.Common.{◌≡◌, ◌<◌, ◌^◌, ℕ, zero, suc, List, [], length, replicate, slice_get, Some, arith, refl, cond}
 use Rattle.std.proofs.lemmas.List.{length-replicate}
 use Rattle.std.proofs.lemmas.List.Folds.{sum_by-replicate}
 use Rattle.aol_depend.specs.declared.search.Mark.{Mark}
@@ -21,15 +20,15 @@ pub started : (needs : Rows) (marks : List Mark) (levels : List ℕ) (path : Lis
 started needs marks levels path within few made depths none =
     let n = length needs in
     let h : IsAt needs (replicate n New) (replicate n 0) 0 [] = record {
-          within = within;
-          few = few;
-          many_marks = length-replicate n New;
-          many_levels = length-replicate n 0;
-          count = omega (arith, sum_by-replicate (λ m. cond (is_ranked m) 1 0) n New);
-          ranks = λ j is. absurd (let e = all_same n New Ranked j is in cc);
-          low = λ j is. absurd (let e = all_same n New Ranked j is in cc);
-          dooms = λ j is. absurd (let e = all_same n New Doomed j is in cc);
-          opens = λ j is. absurd (let e = all_same n New Open j is in cc);
-          chain = tt;
-        } in
+      within = within;
+      few = few;
+      many_marks = length-replicate n New;
+      many_levels = length-replicate n 0;
+      count = omega (arith, sum_by-replicate (λ m. cond (is_ranked m) 1 0) n New);
+      ranks = λ j is. absurd (let e = all_same n New Ranked j is in cc);
+      low = λ j is. absurd (let e = all_same n New Ranked j is in cc);
+      dooms = λ j is. absurd (let e = all_same n New Doomed j is in cc);
+      opens = λ j is. absurd (let e = all_same n New Open j is in cc);
+      chain = tt;
+    } in
     at_equal h made depths refl none

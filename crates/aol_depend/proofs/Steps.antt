@@ -1,20 +1,18 @@
 -- What one step of a search owes to the calls that it makes, and what it leaves.
-use Rattle.std.proofs.Common.{◌≡◌, ◌≢◌, ℕ, zero, suc, ◌+◌, ◌^◌, ◌<◌, ◌≤◌, List, [], ◌∷◌, ◌++◌, map, length, reverse, slice_get, set, get_or, Option, Some, None, refl, sym, ◌∙◌, ap, arith, ◌⊎◌, inl, inr, length-set, subst}
-use Rattle.std.specs.List.{IsAmong, count_by}
+use Rattle.std.proofs.Common.{◌≡◌, ℕ, zero, suc, ◌+◌, ◌^◌, ◌<◌, ◌≤◌, List, [], ◌∷◌, length, slice_get, set, Some, None, sym, ◌∙◌, ap, arith, inl, inr, length-set, subst}
+use Rattle.std.specs.List.{IsAmong}
 use Rattle.std.proofs.lemmas.Bool.{cases_eq}
 use Rattle.std.proofs.lemmas.List.Sums.{count_by-le-length}
-use Rattle.std.proofs.lemmas.Option.{slice_get_within, slice_get-get_or}
+use Rattle.std.proofs.lemmas.Option.{slice_get_within}
 use Rattle.aol_flat.proofs.Among.{get_among, map_among}
 use Rattle.aol_depend.specs.declared.search.Mark.{Mark}
-use Rattle.aol_depend.specs.declared.search.Mark.TheVariants.{New, Open, Ranked, Doomed}
+use Rattle.aol_depend.specs.declared.search.Mark.TheVariants.{New, Open, Ranked}
 use Rattle.aol_depend.specs.declared.search.Visit.{Visit}
 use Rattle.aol_depend.specs.Needs.{Rows, row}
 use Rattle.aol_depend.specs.Search.{is_ranked, IsAt, KeepsOld, doomed, steps_left}
-use Rattle.aol_depend.proofs.Moves.{get-set_same, get-set_other, at_equal, open_named, unlike}
-use Rattle.aol_depend.proofs.Ranking.{count-set, ranked}
-use Rattle.aol_depend.proofs.Entering.{first_visit, next_visit, entered, passed}
-use Rattle.aol_depend.proofs.Dooming.{names, all_are_doomed, doomed_back}
-use Rattle.aol_depend.proofs.Measure.{ranking_less, entering_less, passing_less, dooming_less}
+use Rattle.aol_depend.proofs.Moves.{get-set_same, get-set_other, open_named}
+use Rattle.aol_depend.proofs.Ranking.{count-set}
+use Rattle.aol_depend.proofs.Dooming.{names, doomed_back}
 
 -- the last open instance is one of them
 pub visit_within : {needs : Rows} {marks : List Mark} {levels : List ℕ} {count : ℕ} {v : Visit} {vs : List Visit} → IsAt needs marks levels count (v ∷ vs) → v.instance < length needs

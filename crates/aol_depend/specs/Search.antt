@@ -1,5 +1,5 @@
 -- How far a search for levels has come.
-use Rattle.std.specs.Prelude.{◌≡◌, ◌≢◌, ℕ, ◌+◌, ◌-◌, ◌*◌, ◌^◌, ◌<◌, ◌≤◌, Bool, true, false, List, [], ◌∷◌, map, take, reverse, length, slice_get, slice_index, slice_set, unwrap_or, Option, Some}
+use Rattle.std.specs.Prelude.{◌≡◌, ◌≢◌, ℕ, ◌+◌, ◌-◌, ◌*◌, ◌^◌, ◌<◌, ◌≤◌, Bool, true, false, List, [], ◌∷◌, map, take, reverse, length, slice_get, slice_index, slice_set, Some}
 use Rattle.std.specs.List.{IsAmong, count_by, sum_by}
 use Rattle.aol_flat.specs.Level.{above_all}
 use Rattle.aol_depend.specs.Needs.{Rows, row, AreWithin}

@@ -1,8 +1,8 @@
 //! Which instances each instance needs.
 
 ghost use Rattle.aol_depend.specs.Needs.{row};
+ghost use Rattle.aol_depend.specs.Rows.{AreStarts, rows_of};
 ghost use Rattle.std.specs.Prelude.{◌≡◌, ◌<◌, ◌≤◌, ◌^◌, length, slice_get, slice_range, Some};
-
 
 /// The instances that each instance needs, in one list.
 ///
@@ -37,6 +37,14 @@ fn part_of(list: &[u32], start: usize, end: usize) -> &[u32]
 }
 
 impl Needs {
+    /// The needs that stand in these rows.
+    pub fn of_rows(starts: Vec<u32>, list: Vec<u32>) -> Needs
+        requires { AreStarts starts.items list.items }
+        ensures { result ≡ rows_of starts.items list.items }
+    {
+        Needs { starts, list }
+    }
+
     /// What the instance with this number needs.
     pub fn of(&self, number: u32) -> &[u32]
         requires { number < length self.now }

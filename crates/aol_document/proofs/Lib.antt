@@ -1,17 +1,1 @@
-pub mod Rows
-pub mod Readable
-pub mod Elements
-pub mod Tasks
-pub mod Steps
-pub mod Parts
-pub mod Hooks
 pub mod ReadTrees
-pub mod Written
-pub mod Limited
-pub mod AgainSteps
-pub mod AgainLists
-pub mod AgainTexts
-pub mod AgainTasks
-pub mod AgainLinks
-pub mod AgainJob
-pub mod Again

@@ -4,3 +4,5 @@ pub mod Plans
 pub mod LaneSteps
 pub mod NoRange
 pub mod LineSteps
+pub mod ProductSteps
+pub mod Programs

@@ -1,5 +1,5 @@
 -- A value is a number, or a fault of another kind than that of a width.
-use Rattle.std.proofs.Common.{◌≡◌, ◌==◌, ℕ, zero, suc, ◌+◌, ℤ, pos, nat_abs, ◌+ℤ◌, ◌-ℤ◌, ◌*ℤ◌, List, [], ◌∷◌, map, drop, slice_index, Bool, true, false, Result, Ok, Err, refl, sym, ◌∙◌, ap, if◌then◌else◌}
+use Rattle.std.proofs.Common.{◌≡◌, ℕ, zero, suc, ℤ, pos, nat_abs, ◌+ℤ◌, ◌-ℤ◌, ◌*ℤ◌, List, [], ◌∷◌, map, drop, Bool, true, false, Result, Ok, Err, refl, sym, ◌∙◌, ap, if◌then◌else◌}
 use Rattle.std.specs.Prelude.{int_lt, int_le, int_div, int_rem}
 use Rattle.std.proofs.lemmas.Bool.{false≢true}
 use Rattle.aol_shape.specs.Lists.{same}

@@ -6,3 +6,5 @@ pub mod Resolved
 pub mod Computed
 pub mod Lanes
 pub mod Lines
+pub mod Products
+pub mod Programs

@@ -2,12 +2,14 @@
 
 ghost use Rattle.std.specs.Prelude.{◌≡◌, true, false, ◌<◌, ◌+◌, ◌^◌, ℕ, ℤ, pos, List, ◌∷◌, length, slice_index, slice_index_or};
 ghost use Rattle.std.specs.Bool.{OnTrue};
-ghost use Rattle.aol_expr_tree.specs.declared.op.ExprOp.TheVariants.{Add, Mul};
+ghost use Rattle.aol_expr_tree.specs.declared.op.ExprOp.TheVariants.{Add, Mul, Rem};
 ghost use Rattle.aol_expr_tree.specs.Meaning.{is_zero, nth_number};
 ghost use Rattle.aol_eval.specs.Lanes.{IsApplied, added_up};
+ghost use Rattle.aol_eval.specs.Lines.{number_on};
 ghost use Rattle.aol_eval.specs.Places.{rank_on};
 
-use crate::arithmetic::{add, apply, multiply};
+use crate::arithmetic::{add, apply, multiply, remainder};
+use crate::lines::Line;
 use aol_expr_tree::{ExprOp, Kind};
 
 /// The same number in each lane.
@@ -17,6 +19,23 @@ pub(crate) fn fill_same(out: &mut [i64], number: i64)
     for z in out.iter_mut() {
         *z = number;
     }
+}
+
+/// The numbers of a line; false where one is outside 64 bits.
+pub(crate) fn fill_line(out: &mut [i64], line: Line) -> bool
+    ensures { OnTrue result ((i : ℕ) → i < length out.new → slice_index_or out.new i (pos 0) ≡ number_on line i) }
+{
+    if !line.moves {
+        fill_same(out, line.first);
+        return true;
+    }
+    for k in 0..out.len() {
+        match line.first.checked_add(k as i64) {
+            Some(z) => out[k] = z,
+            None => return false,
+        }
+    }
+    true
 }
 
 /// Consecutive numbers, the first of them in the first lane.
@@ -59,6 +78,20 @@ fn multiply_each(out: &mut [i64], right: &[i64]) -> bool
     true
 }
 
+/// The remainder in each lane; false where it is a fault in one.
+fn remainder_each(out: &mut [i64], right: &[i64]) -> bool
+    requires { length right.now ≡ length out.old }
+    ensures { OnTrue result (IsApplied Rem out.old right.now out.new) }
+{
+    for k in 0..out.len() {
+        match remainder(out[k], right[k]) {
+            Ok(z) => out[k] = z,
+            Err(_) => return false,
+        }
+    }
+    true
+}
+
 /// The operator at the numbers of each lane; false where it is a fault in one.
 fn apply_each(op: ExprOp, out: &mut [i64], right: &[i64]) -> bool
     requires { length right.now ≡ length out.old }
@@ -73,7 +106,7 @@ fn apply_each(op: ExprOp, out: &mut [i64], right: &[i64]) -> bool
     true
 }
 
-/// The operator at the numbers of each lane, with a loop of its own for sums and for products; false where it is a
+/// The operator at the numbers of each lane, with a loop of its own for sums, products and remainders; false where it is a
 /// fault in one.
 pub(crate) fn combine(op: ExprOp, out: &mut [i64], right: &[i64]) -> bool
     requires { length right.now ≡ length out.old }
@@ -82,6 +115,7 @@ pub(crate) fn combine(op: ExprOp, out: &mut [i64], right: &[i64]) -> bool
     match op {
         ExprOp::Add => add_each(out, right),
         ExprOp::Mul => multiply_each(out, right),
+        ExprOp::Rem => remainder_each(out, right),
         _ => apply_each(op, out, right),
     }
 }

@@ -9,7 +9,7 @@ ghost use Rattle.aol_eval.specs.Lines.{number_on, rank_in_lane, IsLine};
 ghost use Rattle.aol_eval.specs.Resolved.{element_at, plan_of, plans_of, run, series};
 
 use crate::columns::{
-    advance, all_zero, combine, fill_from, fill_same, fill_zero, gather, none_zero,
+    advance, all_zero, combine, fill_from, fill_line, fill_same, fill_zero, gather, none_zero,
 };
 use crate::inputs::entry;
 use crate::lines::{Line, Ranks, line_of_op, next_ranks, still, take};
@@ -24,7 +24,7 @@ pub(crate) const WIDTH: usize = 128;
 
 /// The variables around a step in lanes, the innermost first.
 #[derive(Clone, Copy)]
-enum Lanes<'a> {
+pub(crate) enum Lanes<'a> {
     /// The variable that has consecutive values, and those around it.
     Own(&'a Frame<'a>),
     /// The variable of a sum inside, with one value in all lanes.
@@ -79,8 +79,26 @@ fn line_of<'v>(step: &Step, at: &[u32], lanes: &'v Lanes<'v>, from: u32) -> Opti
     }
 }
 
+/// Fills each lane with what the step computes there, where that is seen to be a line.
+fn fill_on<'v>(
+    step: &Step,
+    nums: &[i64],
+    at: &[u32],
+    lanes: &'v Lanes<'v>,
+    from: u32,
+    out: &mut [i64],
+) -> bool
+    requires width { length out.old ≤ 128 }
+    ensures { OnTrue result (Gives (λ z. run nums.now at.now (numbers_in lanes.now z) (plan_of step.now)) from out.new) }
+{
+    match line_of(step, at, lanes, from) {
+        Some(line) => fill_line(out, line),
+        None => false,
+    }
+}
+
 /// The ranks of the elements at the indices, where each index is a line that stays below its entry.
-fn ranks_of<'v>(
+pub(crate) fn ranks_of<'v>(
     shape: &Option<Shape>,
     indices: &Items<Step>,
     at: &[u32],
@@ -159,6 +177,7 @@ fn fill<'v>(
             fill_read_on(shape, *start, indices, nums, at, lanes, from, out)
                 || fill_read(shape, *start, indices, nums, at, lanes, from, out)
         }
+        Step::Bin(_, _, _) if fill_on(step, nums, at, lanes, from, out) => true,
         Step::Bin(op, left, right) => {
             let mut column = [0i64; WIDTH];
             let others = &mut column[..out.len()];

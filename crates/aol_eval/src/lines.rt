@@ -122,7 +122,7 @@ pub(crate) fn next_ranks(ranks: Ranks, line: Line, entry: u32, count: u32) -> Op
 
 /// The number with this rank, where the numbers go so far.
 #[tactic(auto, using(crate::proofs::Places::nth_number_get))]
-fn nth(nums: &[i64], rank: u64) -> Option<i64>
+pub(crate) fn nth(nums: &[i64], rank: u64) -> Option<i64>
     ensures { IfSome result (λ z. z ≡ nth_number nums.now rank) }
 {
     nums.get(rank as usize).copied()

@@ -9,6 +9,7 @@ use crate::inputs::entry;
 use crate::lanes::{WIDTH, fill_terms};
 use crate::pattern::behind;
 use crate::place::{Place, number_of};
+use crate::products::sum_of_products;
 use crate::step::Step;
 use aol_expr_tree::{ExprOp, Kind};
 use aol_shape::{Items, Shape};
@@ -127,6 +128,9 @@ fn sum_on<'v>(
     ensures { result ≡ summed (λ k. run nums.now at.now (k ∷ numbers_of vars.now) (plan_of term.now)) (from + count) }
 {
     if count >= FEWEST {
+        if let Some(total) = sum_of_products(sum, from, count, term, nums, at, vars) {
+            return Ok(total);
+        }
         let mut column = [0i64; WIDTH];
         let lanes = &mut column[..count as usize];
         if fill_terms(term, nums, at, vars, from, lanes) {

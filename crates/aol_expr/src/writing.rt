@@ -1,4 +1,4 @@
-//! The canonical text of an expression.
+//! The canonical text of an expression, which is read as it.
 
 ghost use Rattle.std.specs.Prelude.{◌≡◌, ◌++◌, ◌==◌, decimal, string_bytes, IfOk, OnOk};
 ghost use Rattle.std.specs.Fmt.{signed_decimal};

@@ -81,6 +81,12 @@ pub mod Firsts
 mod Standing
 pub mod CellTable
 pub mod Crossing
+pub mod PortZip
+pub mod Unranking
+pub mod LeafForm
+pub mod LeafAt
+pub mod RunPoints
+pub mod Alongs
 pub mod CopyLeaves
 pub mod CopyEnds
 pub mod CopyTargets

@@ -38,4 +38,5 @@ pub mod Sources
 pub mod Feed
 pub mod Follow
 pub mod Cursor
+pub mod LeafCursor
 pub mod Copies

@@ -5,6 +5,7 @@ ghost use Rattle.aol_expr_tree.specs.declared.port.Port.{Port};
 ghost use Rattle.aol_expr_tree.specs.Tree.{work};
 ghost use Rattle.aol_model_types.specs.declared.task.Copied.{Copied};
 ghost use Rattle.aol_model_types.specs.declared.task.OutPort.{OutPort};
+ghost use Rattle.aol_model_types.specs.Rules.{inputs_of, outputs_of};
 ghost use Rattle.aol_shape.specs.Shape.{size};
 ghost use Rattle.aol_flat.specs.Limits.{own_walk, own_work, passed};
 ghost use Rattle.aol_flat.specs.Saturated.{saturated};
@@ -70,6 +71,28 @@ fn work_on(outs: &[OutPort]) -> u64
         sum = sum.saturating_add(elements.saturating_mul(work(&out.expr)));
     }
     sum
+}
+
+/// The elements that one instance of a task reads at its inputs.
+pub(crate) fn elements_read(task: &Task) -> u64
+    ensures { result ≡ saturated (sum_by (λ (p : Port). size p.shape) (inputs_of task.now)) }
+{
+    match task {
+        Task::Elementary(task) => elements_at(task.ins.as_slice()),
+        Task::Compound(task) => elements_at(task.ins.as_slice()),
+        Task::Repeated(task) => elements_at(task.ins.as_slice()),
+    }
+}
+
+/// The elements that it writes at its outputs.
+pub(crate) fn elements_written(task: &Task) -> u64
+    ensures { result ≡ saturated (sum_by (λ (p : Port). size p.shape) (outputs_of task.now)) }
+{
+    match task {
+        Task::Elementary(task) => elements_made(task.outs.as_slice()),
+        Task::Compound(task) => elements_at(task.outs.as_slice()),
+        Task::Repeated(task) => elements_at(task.outs.as_slice()),
+    }
 }
 
 /// The elements of one instance of a task, and two more for each copy.

@@ -2,10 +2,17 @@
 
 ghost use Rattle.std.specs.Prelude.{◌≡◌, ◌+◌, ◌<◌, length};
 ghost use Rattle.aol_model_types.specs.Rules.{inputs_of, outputs_of};
-ghost use Rattle.aol_flat.specs.Cursor.{HasPortAt, ArePortReads, ArePortCells};
+ghost use Rattle.aol_flat.specs.Accept.{IsFlat};
+ghost use Rattle.aol_flat.specs.Cursor.{HasPortAt, ArePortReads, ArePortCells, IsRunPoint, AreReadsAt, AreWritesAt};
+ghost use Rattle.aol_flat.specs.Instance.{leaves};
+ghost use Rattle.aol_flat.specs.LeafCursor.{HasPortsFrom, AreReadsFrom, AreCellsFrom, IsLeafPoint, reads_each, writes_each};
 
+use crate::counts::{elements_read, elements_written};
+use crate::feed::{input, output};
 use crate::flat::Flat;
+use crate::leaf::LeafKind;
 use crate::view::Read;
+use crate::walk::narrowed;
 
 impl Flat {
     /// The reads of all elements of an input of one instance of a node, in order of rank.
@@ -25,6 +32,108 @@ impl Flat {
     {
         for (x, cell) in into.iter_mut().enumerate() {
             *cell = self.follow_output(node, port, at, x as u32);
+        }
+    }
+
+    /// The reads of all elements of the inputs of one instance of a node, from the input with this number on.
+    fn reads_from(&self, node: u32, port: u32, at: &[u32], into: &mut [Read])
+        requires flat { IsFlat self.now }
+        requires ports { HasPortsFrom self.now.model inputs_of node port (length into.old) at.now }
+        ensures { AreReadsFrom self.now node port at.now into.new }
+    {
+        if into.is_empty() {
+            return;
+        }
+        let many = input(self.task(node), port).shape.size() as usize;
+        let (own, later) = into.split_at_mut(many);
+        self.reads_at_port(node, port, at, own);
+        self.reads_from(node, port + 1, at, later);
+    }
+
+    /// The cells of all elements of the outputs of one instance of a node, from the output with this number on.
+    fn cells_from(&self, node: u32, port: u32, at: &[u32], into: &mut [u32])
+        requires flat { IsFlat self.now }
+        requires ports { HasPortsFrom self.now.model outputs_of node port (length into.old) at.now }
+        ensures { AreCellsFrom self.now node port at.now into.new }
+    {
+        if into.is_empty() {
+            return;
+        }
+        let many = output(self.task(node), port).shape.size() as usize;
+        let (own, later) = into.split_at_mut(many);
+        self.cells_at_port(node, port, at, own);
+        self.cells_from(node, port + 1, at, later);
+    }
+
+    /// The reads of the instance of an elementary leaf at a point of its space, by port and rank.
+    fn run_reads(&self, leaf: u32, at: &[u32], into: &mut [Read])
+        requires point { IsRunPoint self.now.model leaf at.now }
+        requires many { length into.old ≡ reads_each self.now.model leaf }
+        ensures { AreReadsAt self.now leaf at.now into.new }
+    {
+        let _model = self.model();
+        self.reads_from(self.leaf_spot(leaf).node, 0, at, into);
+    }
+
+    /// The cells that it writes, by port and rank.
+    fn run_writes(&self, leaf: u32, at: &[u32], into: &mut [u32])
+        requires point { IsRunPoint self.now.model leaf at.now }
+        requires many { length into.old ≡ writes_each self.now.model leaf }
+        ensures { AreWritesAt self.now leaf at.now into.new }
+    {
+        let _model = self.model();
+        self.cells_from(self.leaf_spot(leaf).node, 0, at, into);
+    }
+
+    /// The reads of the instance of a leaf at a point of its space.
+    pub(crate) fn reads_on(&self, leaf: u32, at: &[u32], into: &mut [Read])
+        requires point { IsLeafPoint self.now.model leaf at.now }
+        requires many { length into.old ≡ reads_each self.now.model leaf }
+        ensures { AreReadsAt self.now leaf at.now into.new }
+    {
+        match self.leaf(leaf).kind {
+            LeafKind::Elementary(_) => self.run_reads(leaf, at, into),
+            LeafKind::Copy => into[0] = self.copy_read(leaf, at),
+        }
+    }
+
+    /// The cells that it writes.
+    pub(crate) fn writes_on(&self, leaf: u32, at: &[u32], into: &mut [u32])
+        requires point { IsLeafPoint self.now.model leaf at.now }
+        requires many { length into.old ≡ writes_each self.now.model leaf }
+        ensures { AreWritesAt self.now leaf at.now into.new }
+    {
+        match self.leaf(leaf).kind {
+            LeafKind::Elementary(_) => self.run_writes(leaf, at, into),
+            LeafKind::Copy => into[0] = self.copy_write(leaf, at),
+        }
+    }
+
+    /// How many elements an instance of a leaf reads.
+    pub(crate) fn reads_of(&self, leaf: u32) -> u32
+        requires { leaf < length (leaves self.now.model) }
+        ensures { result ≡ reads_each self.now.model leaf }
+    {
+        let _model = self.model();
+        match self.leaf(leaf).kind {
+            LeafKind::Elementary(_) => {
+                narrowed(elements_read(self.task(self.leaf_spot(leaf).node)))
+            }
+            LeafKind::Copy => 1,
+        }
+    }
+
+    /// How many it writes.
+    pub(crate) fn writes_of(&self, leaf: u32) -> u32
+        requires { leaf < length (leaves self.now.model) }
+        ensures { result ≡ writes_each self.now.model leaf }
+    {
+        let _model = self.model();
+        match self.leaf(leaf).kind {
+            LeafKind::Elementary(_) => {
+                narrowed(elements_written(self.task(self.leaf_spot(leaf).node)))
+            }
+            LeafKind::Copy => 1,
         }
     }
 }

@@ -16,10 +16,12 @@ mod follow;
 mod instance;
 mod laws;
 mod leaf;
+mod leaf_cursor;
 pub mod limits;
 mod nodes;
 mod numbers;
 mod place;
+mod points;
 mod refused;
 mod shared;
 mod spot;
@@ -40,6 +42,7 @@ pub use laws::{
     sound_is_real, sound_sources_are_found, sources_are_right, twice_is_found,
 };
 pub use leaf::{Leaf, LeafKind};
+pub use leaf_cursor::{LeafReads, LeafWrites};
 pub use refused::FlatRefused;
 pub use shared::types_are_shared;
 pub use view::{End, Read, Reader, Writer};

@@ -1,4 +1,4 @@
-use Rattle.std.proofs.Common.{◌≡◌, length, arith, ap}
+use Rattle.std.proofs.Common.{length, arith, ap}
 use Rattle.aol_depend.proofs.Rows.{length-rows_of}
 use Rattle.aol_depend.proofs.needs.Needs.len.Goals as goal
 

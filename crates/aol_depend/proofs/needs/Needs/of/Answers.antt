@@ -1,4 +1,4 @@
-use Rattle.std.proofs.Common.{◌≡◌, ◌<◌, ◌≤◌, length, slice_get, slice_range, Some, ◌+◌, ◌-◌, get_or, arith, ap, sym, ◌∙◌}
+use Rattle.std.proofs.Common.{length, slice_get, slice_range, Some, arith, ap, sym, ◌∙◌}
 use Rattle.aol_depend.proofs.Rows.{length-rows_of, IsRow, is_row}
 use Rattle.aol_depend.proofs.needs.Needs.of.Goals as goal
 use Rattle.aol_depend.proofs.needs.Needs.of.Goals.{After-as_slice}

@@ -1,6 +1,4 @@
-use Rattle.std.proofs.Common.{rules, ◌≡◌, ◌<◌, length, reverse, [], ◌∷◌, ◌++◌, ap, sym, ◌∙◌, arith, subst, List, length-set, get_or, refl}
-use Rattle.std.specs.List.{IsAmong}
-use Rattle.aol_depend.specs.declared.search.Visit.{Visit}
+use Rattle.std.proofs.Common.{◌≡◌, reverse, ◌∷◌, ap, sym, ◌∙◌, arith, length-set}
 use Rattle.aol_depend.specs.declared.search.Mark.TheVariants.{Doomed}
 use Rattle.aol_depend.specs.Search.{doomed}
 use Rattle.aol_depend.proofs.Stack.{reversed_push, among_here, among_later, in_reversed}

@@ -1,4 +1,4 @@
-use Rattle.std.proofs.Common.{◌≡◌, ◌<◌, ◌∙◌, ap, sym, Some, [], arith, reverse, refl, length}
+use Rattle.std.proofs.Common.{◌∙◌, ap, sym, Some, arith, reverse, refl}
 use Rattle.aol_depend.proofs.Moves.{at_equal}
 use Rattle.aol_depend.proofs.Finding.{first_circling, have_levels, levels_fit}
 use Rattle.aol_depend.proofs.search.Search.first_doomed.Goals as goal

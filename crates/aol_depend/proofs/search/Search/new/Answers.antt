@@ -1,4 +1,4 @@
-use Rattle.std.proofs.Common.{◌≡◌, ℕ, [], length, reverse, ap, ◌∙◌, arith, replicate}
+use Rattle.std.proofs.Common.{ℕ, reverse, ap, ◌∙◌, arith, replicate}
 use Rattle.aol_depend.specs.declared.search.Mark.TheVariants.{New}
 use Rattle.aol_depend.proofs.Starting.{started}
 use Rattle.aol_depend.proofs.search.Search.new.Goals as goal

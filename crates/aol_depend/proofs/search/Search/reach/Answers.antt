@@ -1,9 +1,8 @@
-use Rattle.std.proofs.Common.{◌≡◌, ◌<◌, ℕ, [], ◌∷◌, ◌++◌, List, reverse, length, slice_get, set, Some, ap, sym, ◌∙◌, arith, refl, subst}
+use Rattle.std.proofs.Common.{◌≡◌, ℕ, [], ◌∷◌, List, reverse, slice_get, set, Some, ap, sym, ◌∙◌, refl}
 use Rattle.std.proofs.lemmas.Option.{slice_get_within}
 use Rattle.std.proofs.lemmas.Result.{on_ok_weaker}
 use Rattle.aol_depend.specs.declared.search.Mark.{Mark}
-use Rattle.aol_depend.specs.declared.search.Mark.TheVariants.{New, Open, Ranked, Doomed}
-use Rattle.aol_depend.specs.declared.search.Visit.{Visit}
+use Rattle.aol_depend.specs.declared.search.Mark.TheVariants.{New, Open}
 use Rattle.aol_depend.specs.Search.{KeepsOld}
 use Rattle.aol_depend.proofs.Entering.{entered, first_visit}
 use Rattle.aol_depend.proofs.Moves.{at_equal, get-set_same, unlike}

@@ -1,4 +1,4 @@
-use Rattle.std.proofs.Common.{rules, ◌≡◌, ◌+◌, ◌^◌, ◌<◌, ◌∷◌, max, get_or, length, reverse, ap, sym, ◌∙◌, arith, refl, inl, inr, ◌⊎◌, Some, None, slice_get}
+use Rattle.std.proofs.Common.{◌≡◌, ◌+◌, ◌∷◌, max, get_or, reverse, ap, sym, ◌∙◌, arith, refl, inl, inr, ◌⊎◌, Some, slice_get}
 use Rattle.std.proofs.lemmas.Result.{on_ok_weaker}
 use Rattle.std.proofs.lemmas.Option.{slice_get_within}
 use Rattle.aol_flat.proofs.Among.{get_among}
@@ -11,7 +11,7 @@ use Rattle.aol_depend.proofs.Ranking.{ranked}
 use Rattle.aol_depend.proofs.Dooming.{all_are_doomed}
 use Rattle.aol_depend.proofs.Entering.{entered, passed}
 use Rattle.aol_depend.proofs.Measure.{ranking_less, entering_less, passing_less, dooming_less}
-use Rattle.aol_depend.proofs.Steps.{visit_within, level_fits, needed_within, none_left, set_keeps, doomed_keeps, keeps_equal, less_equal, all_within, visits_within}
+use Rattle.aol_depend.proofs.Steps.{level_fits, needed_within, none_left, set_keeps, doomed_keeps, keeps_equal, less_equal, all_within, visits_within}
 use Rattle.aol_depend.proofs.search.Search.step.Goals as goal
 
 pub rank-requires-clause-few : goal.rank-requires-clause-few
@@ -48,7 +48,7 @@ returns-in_ok-push-in-New-clause-state c =
     let st = pushed_twice c.args.self.now.path.items c.push.new.self.items c.args.visit c.in-Some.needed c.in_ok-push-in-New.ensures.items in
     let needed = get_among (row c.args.needs.now c.args.visit.instance) c.args.visit.next c.in-Some.needed (sym c.next.ensures.next ∙ c.in-Some.is) in
     let e = entered c.args.needs.now c.args.self.now.marks.items c.args.self.now.levels.items c.args.self.now.ranked c.in-Some.needed (c.args.visit ∷ reverse c.args.self.now.path.items) c.requires
-        (c.mark.ensures ∙ ap Some c.in-New.is) needed in
+    (c.mark.ensures ∙ ap Some c.in-New.is) needed in
     on_ok_weaker c.enter.result (λ path. at_equal e c.enter.ensures.marks c.enter.ensures.levels c.enter.ensures.ranked (st c.enter.new.self.path.items path)) c.enter.ensures.path
 
 pub returns-in_ok-push-in-New-clause-old : goal.returns-in_ok-push-in-New-clause-old
@@ -65,7 +65,7 @@ pub returns-in_ok-push-in-Ranked-clause-state : goal.returns-in_ok-push-in-Ranke
 returns-in_ok-push-in-Ranked-clause-state c =
     let pushed = reversed_push c.args.self.now.path.items c.push-in-Ranked.new.self.items _ c.in_ok-push-in-Ranked.ensures.items in
     let p = passed c.args.needs.now c.args.self.now.marks.items c.args.self.now.levels.items c.args.self.now.ranked c.in-Some.needed c.args.visit (reverse c.args.self.now.path.items) c.requires
-      (sym c.next.ensures.next ∙ c.in-Some.is) (c.mark.ensures ∙ ap Some c.in-Ranked.is) in
+    (sym c.next.ensures.next ∙ c.in-Some.is) (c.mark.ensures ∙ ap Some c.in-Ranked.is) in
     let n = get_or c.args.self.now.levels.items c.in-Some.needed 0 in
     let level : c.max-level.result ≡ max c.args.visit.level (n + 1) = omega (arith, c.max-level.ensures, c.level.ensures) in
     at_equal p refl refl refl (pushed ∙ ap (λ l. record { instance = c.args.visit.instance; next = c.args.visit.next + 1; level = l } ∷ reverse c.args.self.now.path.items) level)
@@ -83,9 +83,9 @@ returns-in_ok-push-in-Open-clause-state c =
     let pushed = reversed_push c.args.self.now.path.items c.push-in-Open.new.self.items c.args.visit c.in_ok-push-in-Open.ensures.items in
     let needed = get_among (row c.args.needs.now c.args.visit.instance) c.args.visit.next c.in-Some.needed (sym c.next.ensures.next ∙ c.in-Some.is) in
     let marked : (slice_get c.args.self.now.marks.items c.in-Some.needed ≡ Some Open) ⊎ (slice_get c.args.self.now.marks.items c.in-Some.needed ≡ Some Doomed) = elim c.in-Open.is [
-          | inl e ↦ inl (c.mark.ensures ∙ ap Some e)
-          | inr e ↦ inr (c.mark.ensures ∙ ap Some e)
-        ] in
+      | inl e ↦ inl (c.mark.ensures ∙ ap Some e)
+      | inr e ↦ inr (c.mark.ensures ∙ ap Some e)
+    ] in
     at_equal (all_are_doomed c.args.needs.now c.args.self.now.marks.items c.args.self.now.levels.items c.args.self.now.ranked c.args.visit (reverse c.args.self.now.path.items) c.in-Some.needed c.requires needed marked)
     (c.doom.ensures.marks ∙ ap (doomed c.args.self.now.marks.items) pushed) c.doom.ensures.levels c.doom.ensures.ranked (ap reverse c.doom.ensures.path)
 

@@ -1,0 +1,9 @@
+pub mod Bytes
+pub mod Lines
+pub mod Eaten
+pub mod States
+pub mod Next
+pub mod Stored
+pub mod Parts
+pub mod Wrong
+pub mod Step

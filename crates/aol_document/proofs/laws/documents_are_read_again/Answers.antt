@@ -1,5 +1,0 @@
-use Rattle.aol_document.proofs.Again.{documents_again}
-use Rattle.aol_document.proofs.laws.documents_are_read_again.Goals as goal
-
-pub returns : goal.returns
-returns c = documents_again

@@ -1,5 +1,0 @@
-use Rattle.aol_document.proofs.Tasks.{model_kept}
-use Rattle.aol_document.proofs.reading.whole.ModelFromTree.from_tree.Goals as goal
-
-pub returns-clause-types : goal.returns-clause-types
-returns-clause-types c = rw c.from_vec.ensures (model_kept _ c.in_ok-read.ensures.types (c.in_ok-read.ensures.count).0)

@@ -1,0 +1,11 @@
+pub mod Rows
+pub mod Readable
+pub mod ReadTrees
+pub mod Limited
+pub mod AgainSteps
+pub mod AgainLists
+pub mod AgainTexts
+pub mod AgainTasks
+pub mod AgainLinks
+pub mod AgainJob
+pub mod Again

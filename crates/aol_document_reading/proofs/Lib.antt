@@ -1,0 +1,5 @@
+pub mod Elements
+pub mod Tasks
+pub mod Parts
+pub mod Steps
+pub mod Hooks

@@ -1,0 +1,17 @@
+use Rattle.std.proofs.Common.{◌≡◌, length, sym, ◌∙◌, subst}
+use Rattle.aol_model_types.specs.Rules.{inputs_of}
+use Rattle.aol_flat.specs.Cursor.{AreReadsAt}
+use Rattle.aol_flat.proofs.RunPoints.{run_point, copy_point, copy_elements, one_written}
+use Rattle.aol_flat.proofs.flat.Flat.reads_on.Goals as goal
+
+pub run_reads-requires-clause-point : goal.run_reads-requires-clause-point
+run_reads-requires-clause-point c = run_point c.args.self.now.model c.args.leaf c.args.at.now c.leaf.result.now _ c.requires.point c.leaf.ensures c.in-Elementary.is
+
+pub copy_read-requires : goal.copy_read-requires
+copy_read-requires c = copy_point c.args.self.now.model c.args.leaf c.args.at.now c.leaf.result.now c.requires.point c.leaf.ensures c.in-Copy.is
+
+pub returns-in-Copy : goal.returns-in-Copy
+returns-in-Copy c =
+    let p = copy_point c.args.self.now.model c.args.leaf c.args.at.now c.leaf.result.now c.requires.point c.leaf.ensures c.in-Copy.is in
+    let count : length c.args.into.now ≡ 1 = c.requires.many ∙ copy_elements inputs_of c.args.self.now.model c.args.leaf p.leaf p.reshape p.entries p.listed p.copies in
+    subst (AreReadsAt c.args.self.now c.args.leaf c.args.at.now) (sym (one_written c.args.into.now c.copy_read.result count)) c.copy_read.ensures

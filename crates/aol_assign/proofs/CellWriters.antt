@@ -1,5 +1,5 @@
 -- Where nothing is written twice, a cell has at most one writer.
-use Rattle.std.proofs.Common.{◌≡◌, ℕ, zero, suc, List, [], ◌∷◌, map, Option, Some, None, slice_get, find, sym, ◌∙◌, ap, refl, arith, subst}
+use Rattle.std.proofs.Common.{◌≡◌, ℕ, List, ◌∷◌, map, Option, Some, None, slice_get, find, sym, ◌∙◌, ap, refl, subst}
 use Rattle.std.specs.List.{IsAmong}
 use Rattle.std.specs.Option.{option_to_list}
 use Rattle.aol_shape.specs.Lists.{same}
@@ -11,12 +11,12 @@ use Rattle.aol_model_types.specs.declared.task.OutPort.{OutPort}
 use Rattle.aol_model_types.specs.declared.task.Part.{Part}
 use Rattle.aol_model_types.specs.declared.task.Task.TheVariants as tasks
 use Rattle.aol_model_types.specs.Rules.{inputs_named, outputs_of}
-use Rattle.aol_flat.specs.Place.{Place, IntoPart, Down, Element, IsElement, task_at, elements_of}
-use Rattle.aol_flat.specs.Home.{Kept, home_of}
-use Rattle.aol_flat.specs.Instance.{Instance, Run, Copy, instances, of_task, copy_end, copy_target, written_elements}
+use Rattle.aol_flat.specs.Place.{Place, IntoPart, Down, Element, task_at, elements_of}
+use Rattle.aol_flat.specs.Home.{Kept}
+use Rattle.aol_flat.specs.Instance.{Instance, Run, Copy, of_task, copy_target, written_elements}
 use Rattle.aol_flat.specs.InstanceNeed.{Reaches, here, onward, IsReal}
 use Rattle.aol_flat.specs.Need.{Follows}
-use Rattle.aol_flat.specs.Laid.{Laid, IsLaid}
+use Rattle.aol_flat.specs.Laid.{Laid}
 use Rattle.aol_flat.specs.Level.{WritesCell}
 use Rattle.aol_flat.specs.Sources.{source_at}
 use Rattle.aol_flat.specs.Targets.{IsSingleAssignment}

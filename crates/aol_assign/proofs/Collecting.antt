@@ -1,5 +1,5 @@
 -- Members of a target collected from a list.
-use Rattle.std.proofs.Common.{◌≡◌, ℕ, zero, suc, ◌+◌, ◌<◌, List, [], ◌∷◌, ◌++◌, length, take, flat_map, get_or, Bool, true, false, cond, ◌&&◌, map, slice_get, Option, Some, None, option_map, unwrap_or, sym, ◌∙◌, ap, refl, arith, subst}
+use Rattle.std.proofs.Common.{◌≡◌, ℕ, ◌+◌, ◌<◌, List, [], ◌∷◌, ◌++◌, length, take, flat_map, get_or, true, false, cond, ◌&&◌, slice_get, Option, Some, None, option_map, unwrap_or, sym, ◌∙◌, ap, subst}
 use Rattle.std.specs.List.{AllByRecursion, enumerate_from}
 use Rattle.std.proofs.lemmas.List.{append-nil, map-append}
 use Rattle.std.proofs.lemmas.Grind.{flat_map-append}
@@ -12,7 +12,7 @@ use Rattle.aol_model_types.specs.declared.task.Repeated.{Repeated}
 use Rattle.aol_model_types.specs.declared.task.Task.{Task}
 use Rattle.aol_model_types.specs.declared.task.TilerOn.{TilerOn}
 use Rattle.aol_model_types.specs.Rules.{task_named, outputs_of, port_shape, same_part}
-use Rattle.aol_flat.specs.Targets.{Writing, writings_of, tiler_writings, reshape_writings}
+use Rattle.aol_flat.specs.Targets.{writings_of, tiler_writings, reshape_writings}
 use Rattle.aol_flat.proofs.Among.{among_get}
 use Rattle.aol_flat.proofs.Visiting.{numbered_more}
 use Rattle.aol_assign.specs.declared.pairs.Member.{Member}

@@ -1,5 +1,5 @@
 -- The first point of some targets that is written twice, target by target.
-use Rattle.std.proofs.Common.{◌≡◌, ℕ, suc, ◌+◌, ◌<◌, List, [], ◌∷◌, ◌++◌, length, map, flat_map, drop, get_or, true, Option, Some, None, option_map, slice_get, Result, Ok, Err, sym, ◌∙◌, ap, refl, arith, subst, add-one}
+use Rattle.std.proofs.Common.{◌≡◌, ℕ, suc, ◌+◌, ◌<◌, List, [], ◌∷◌, ◌++◌, length, map, flat_map, drop, get_or, true, Option, Some, None, option_map, slice_get, Result, Ok, Err, sym, ◌∙◌, ap, refl, subst, add-one}
 use Rattle.std.specs.Result.{IfOk}
 use Rattle.aol_model_types.specs.declared.document.Model.{Model}
 use Rattle.aol_model_types.specs.declared.task.Task.{Task}

@@ -1,5 +1,5 @@
 -- Where the shapes of a model agree, the tilers and reshapes of its targets fit.
-use Rattle.std.proofs.Common.{◌≡◌, ℕ, zero, suc, ◌+◌, ◌<◌, List, [], ◌∷◌, ◌++◌, length, map, Bool, true, false, not, ◌&&◌, is_some, Option, Some, None, option_map, option_and_then, unwrap_or, slice_get, find, sym, ◌∙◌, ap, refl, arith, ◌⊎◌, inl, inr, subst}
+use Rattle.std.proofs.Common.{◌≡◌, ℕ, ◌+◌, List, [], ◌∷◌, ◌++◌, length, Bool, true, false, not, is_some, Option, Some, None, option_map, option_and_then, unwrap_or, slice_get, find, sym, ◌∙◌, ap, refl, arith, ◌⊎◌, inl, inr, subst}
 use Rattle.std.specs.List.{AllByRecursion, IsAmong, list_any}
 use Rattle.aol_shape.specs.Lists.{same}
 use Rattle.aol_shape.specs.Shape.{IsShape}
@@ -14,7 +14,6 @@ use Rattle.aol_model_types.specs.declared.task.Part.{Part}
 use Rattle.aol_model_types.specs.declared.task.Repeated.{Repeated}
 use Rattle.aol_model_types.specs.declared.task.Task.{Task}
 use Rattle.aol_model_types.specs.declared.task.Task.TheVariants as tasks
-use Rattle.aol_model_types.specs.declared.task.TilerOn.{TilerOn}
 use Rattle.aol_model_types.specs.Rules.{task_named, inputs_of, outputs_of, inputs_named, outputs_named, port_shape, part_named, same_part, to_shape, fits_in, is_earlier_task, is_new_part, part_checks, copied_checks, gives, takes, source_fits, target_fits}
 use Rattle.aol_model_types.specs.declared.place.Key.TheVariants.{KParts, KReshapes}
 use Rattle.aol_model_types.specs.Places.{to_key}
@@ -55,10 +54,10 @@ output_limits (tasks.Compound c) p h a = all_among IsPort c.outs p h.outs a
 output_limits (tasks.Repeated t) p h a = all_among IsPort t.outs p h.outs a
 
 module _ (m : Model) (sound : IsSound m) where
-  limits_of : (k : ℕ) (t : Task) → slice_get m.tasks k ≡ Some t → IsTask t
+  pub limits_of : (k : ℕ) (t : Task) → slice_get m.tasks k ≡ Some t → IsTask t
   limits_of k t at = AllByRecursion-at IsTask m.tasks k t sound.read.model.tasks at
 
-  task_limits : (t : Task) → IsTaskOf m t → IsTask t
+  pub task_limits : (t : Task) → IsTaskOf m t → IsTask t
   task_limits t s = limits_of (length s.before + 0) t (ap (λ ts. slice_get ts (length s.before + 0)) s.split ∙ slice_get-right s.before (t ∷ s.rest) 0)
 
   shape_there : (o : Option (List ℕ)) → is_some o ≡ true → (s : List ℕ) × (o ≡ Some s)

@@ -1,21 +1,17 @@
 -- An element is given exactly where reading it gives a default number, a main input or a cell that is written.
 use Rattle.std.proofs.Common.{◌≡◌, ℕ, zero, suc, ◌<◌, List, [], ◌∷◌, ◌++◌, length, Option, Some, None, slice_get, sym, ◌∙◌, ap, refl, arith, ◌⊎◌, inl, inr, subst, unwrap_or, option_map}
 use Rattle.std.specs.List.{IsAmong}
-use Rattle.std.proofs.lemmas.Option.{slice_get_within}
 use Rattle.std.proofs.lemmas.List.{append_assoc}
-use Rattle.aol_model_types.specs.declared.document.Model.{Model}
 use Rattle.aol_model_types.specs.declared.task.Task.{Task}
 use Rattle.aol_model_types.specs.Rules.{inputs_of}
 use Rattle.aol_expr_tree.specs.declared.port.Port.{Port}
 use Rattle.aol_flat.specs.Tasks.{main_task, main_inputs}
 use Rattle.aol_flat.specs.Node.{nodes}
 use Rattle.std.specs.Prelude.{flat_map}
-use Rattle.aol_flat.specs.Place.{Element, IsElement, elements_of}
+use Rattle.aol_flat.specs.Place.{Element, elements_of}
 use Rattle.aol_flat.specs.Equation.{MainInput}
-use Rattle.aol_flat.specs.Home.{Home, Kept, Constant, home_of}
-use Rattle.aol_flat.specs.Laid.{Laid, IsLaid, IsReadOf, main_input_elements, main_output_elements, inner_cells, homes_of}
-use Rattle.aol_flat.specs.Level.{WritesCell}
-use Rattle.aol_flat.specs.Reads.{IsGiven}
+use Rattle.aol_flat.specs.Home.{Kept, home_of}
+use Rattle.aol_flat.specs.Laid.{Laid, IsLaid, IsReadOf, main_input_elements, main_output_elements, inner_cells}
 use Rattle.aol_flat.specs.Targets.{IsSingleAssignment}
 use Rattle.aol_flat.specs.Accept.{IsSound}
 use Rattle.aol_flat.specs.declared.view.Read.{Read}
@@ -29,11 +25,12 @@ use Rattle.aol_flat_laws.proofs.OneWriter.{written_among, among_written}
 use Rattle.aol_assign.specs.Cells.{IsGivenRead, GivenByCells}
 use Rattle.aol_assign.proofs.GivenHomes.{GivenHome, IsWrittenHome, given_home, home_given}
 
-module _ (f : Laid) (sound : IsSound f.model) (laid : IsLaid f) (single : IsSingleAssignment f.model) where
+module _ (f : Laid) (sound : IsSound f.model) (laid : IsLaid f) where
   -- the first cells are the main inputs
-  first_cells : f.cells ≡ main_input_elements f.model ++ (main_output_elements f.model ++ flat_map (inner_cells f.model) (nodes f.model))
+  pub first_cells : f.cells ≡ main_input_elements f.model ++ (main_output_elements f.model ++ flat_map (inner_cells f.model) (nodes f.model))
   first_cells = laid ∙ append_assoc (main_input_elements f.model) (main_output_elements f.model) (flat_map (inner_cells f.model) (nodes f.model))
 
+module _ (f : Laid) (sound : IsSound f.model) (laid : IsLaid f) (single : IsSingleAssignment f.model) where
   -- a main input is an element of the list of main inputs
   main_listed : (h : Element) → MainInput f.model h → IsAmong (main_input_elements f.model) h
   main_listed h a =
@@ -61,7 +58,7 @@ module _ (f : Laid) (sound : IsSound f.model) (laid : IsLaid f) (single : IsSing
 
   -- a cell holds a main input exactly where it is one of the first
   cell_main : (c : ℕ) (h : Element) → slice_get f.cells c ≡ Some h → c < length (main_input_elements f.model) → MainInput f.model h
-  cell_main c h at lt = listed_main h (get_among (main_input_elements f.model) c h (in_front (main_input_elements f.model) _ c h lt (sym (ap (λ cells. slice_get cells c) first_cells) ∙ at)))
+  cell_main c h at lt = listed_main h (get_among (main_input_elements f.model) c h (in_front (main_input_elements f.model) _ c h lt (sym (ap (λ cells. slice_get cells c) (first_cells f sound laid)) ∙ at)))
     where
       in_front : (xs ys : List Element) (c : ℕ) (h : Element) → c < length xs → slice_get (xs ++ ys) c ≡ Some h → slice_get xs c ≡ Some h
       in_front [] ys c h lt e = absurd (omega (arith, lt))
@@ -73,7 +70,7 @@ module _ (f : Laid) (sound : IsSound f.model) (laid : IsLaid f) (single : IsSing
       let l = main_listed h a in
       let there : slice_get (main_input_elements f.model) l.0 ≡ Some h = among_get (main_input_elements f.model) l.0 h l.1.0 l.1.1 in
       let cell : slice_get f.cells l.0 ≡ Some h =
-      ap (λ cells. slice_get cells l.0) first_cells ∙ slice_get-left (main_input_elements f.model) (main_output_elements f.model ++ flat_map (inner_cells f.model) (nodes f.model)) l.0 h there in
+      ap (λ cells. slice_get cells l.0) (first_cells f sound laid) ∙ slice_get-left (main_input_elements f.model) (main_output_elements f.model ++ flat_map (inner_cells f.model) (nodes f.model)) l.0 h there in
       let one : l.0 ≡ c = (laid_cells_are_homes f sound.shapes laid).once l.0 c h cell at in
       omega (arith, l.1.0, one)
 

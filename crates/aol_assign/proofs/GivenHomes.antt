@@ -1,7 +1,6 @@
 -- An element is given exactly where its home is a default number, a main input or written.
-use Rattle.std.proofs.Common.{◌≡◌, ℕ, zero, suc, ◌+◌, ◌<◌, Bool, true, false, List, [], ◌∷◌, ◌++◌, length, map, Option, Some, None, slice_get, find, ℤ, sym, ◌∙◌, ap, refl, arith, ◌⊎◌, inl, inr, subst}
+use Rattle.std.proofs.Common.{◌≡◌, ℕ, zero, suc, ◌<◌, Bool, true, false, List, [], ◌∷◌, length, map, Option, Some, None, slice_get, ℤ, sym, ◌∙◌, ap, refl, arith, ◌⊎◌, inl, inr, subst}
 use Rattle.std.specs.List.{IsAmong}
-use Rattle.std.proofs.lemmas.Option.{slice_get_within}
 use Rattle.aol_shape.specs.Lists.{same}
 use Rattle.aol_link.specs.declared.link.Choice.{Choice}
 use Rattle.aol_link.specs.declared.link.Fallback.{Fallback}
@@ -9,8 +8,6 @@ use Rattle.aol_link.specs.declared.link.Fallback.TheVariants.{Number, Tiled}
 use Rattle.aol_link.specs.declared.link.Interlink.{Interlink}
 use Rattle.aol_link.specs.Links.{source_repetition}
 use Rattle.aol_model_types.specs.declared.document.Model.{Model}
-use Rattle.aol_model_types.specs.declared.task.Compound.{Compound}
-use Rattle.aol_model_types.specs.declared.task.Elementary.{Elementary}
 use Rattle.aol_model_types.specs.declared.task.OutPort.{OutPort}
 use Rattle.aol_model_types.specs.declared.task.Plain.{Plain}
 use Rattle.aol_model_types.specs.declared.task.Repeated.{Repeated}
@@ -19,7 +16,7 @@ use Rattle.aol_model_types.specs.declared.task.Task.TheVariants as tasks
 use Rattle.aol_model_types.specs.declared.task.TilerOn.{TilerOn}
 use Rattle.aol_model_types.specs.Rules.{outputs_of}
 use Rattle.aol_flat.specs.Place.{Place, IntoPart, IntoRepetition, Element, IsElement, task_at, elements_of}
-use Rattle.aol_flat.specs.Equation.{MainInput, ElementaryOutput, LinkedInput, DefaultNumber, CopiedElement}
+use Rattle.aol_flat.specs.Equation.{MainInput, LinkedInput, DefaultNumber}
 use Rattle.aol_flat.specs.Home.{Home, Kept, Constant, NoHome, origin, origin_home, handed, home_of, is_input_at, link_into_part, tiler_at, link_into_repetition, default_choice, part_origin, linked_origin, repetition_origin, tiled_origin, link_origin, source_origin, choice_origin, fallback_origin}
 use Rattle.aol_flat.specs.Instance.{Instance, Run, Copy, instances, of_task, written_elements}
 use Rattle.aol_flat.specs.InstanceNeed.{Reaches, here, onward, IsReal}
@@ -28,7 +25,7 @@ use Rattle.aol_flat.specs.Reads.{IsGiven, by_main_input, by_default, by_computin
 use Rattle.aol_flat.specs.Followed.{Moves, climbs, crosses, descends}
 use Rattle.aol_flat.specs.Sources.{source_at, input_source, part_source, linked_source, copied_source, part_writing, repetition_source, tiled_source, interlink_source, earlier_source, choice_source, fallback_source, TakesFrom, following, copying}
 use Rattle.aol_flat.specs.Targets.{IsSingleAssignment}
-use Rattle.aol_flat.specs.Wired.{IsInput, IsOutput, IsWired}
+use Rattle.aol_flat.specs.Wired.{IsInput, IsWired}
 use Rattle.aol_flat.specs.Accept.{IsSound}
 use Rattle.aol_flat.proofs.Exists.{needed_exists}
 use Rattle.aol_flat.proofs.Following.{following_moves}
@@ -37,7 +34,6 @@ use Rattle.aol_flat.proofs.Levelled.{two_sides}
 use Rattle.aol_flat.proofs.Numbered.{agreeing_is_numbered}
 use Rattle.aol_flat.proofs.Once.{found_among}
 use Rattle.aol_flat.proofs.Names.{same-equal}
-use Rattle.aol_flat.proofs.Among.{get_among}
 use Rattle.aol_flat.proofs.PathGrounded.{none_is_some}
 use Rattle.aol_flat.proofs.Real.{sound_is_real}
 use Rattle.aol_flat.proofs.RealCycles.{output_of_port}

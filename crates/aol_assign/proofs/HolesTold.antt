@@ -1,23 +1,22 @@
 -- The first read that isn't given, instance by instance and then among the main outputs.
-use Rattle.std.proofs.Common.{◌≡◌, ℕ, zero, suc, ◌+◌, ◌<◌, ◌≤◌, Bool, true, false, not, cond, ◌||◌, is_some, List, [], ◌∷◌, ◌++◌, length, map, flat_map, filter_map, take, get_or, Option, Some, None, slice_get, option_map, option_and_then, unwrap_or, sym, ◌∙◌, ap, refl, arith, ◌⊎◌, inl, inr, subst, lt-ltb}
+use Rattle.std.proofs.Common.{◌≡◌, ℕ, zero, suc, ◌+◌, ◌<◌, Bool, true, false, not, cond, ◌||◌, is_some, List, [], ◌∷◌, ◌++◌, length, flat_map, filter_map, take, get_or, Option, Some, None, slice_get, option_map, option_and_then, unwrap_or, sym, ◌∙◌, ap, refl, arith, ◌⊎◌, inl, inr, subst, lt-ltb}
 use Rattle.std.specs.Prelude.{nat_lt}
 use Rattle.std.specs.List.{IsAmong, AllZip, enumerate_from, position_from}
 use Rattle.std.specs.Option.{option_to_list}
 use Rattle.std.proofs.lemmas.Bool.{ltb-true}
-use Rattle.std.proofs.lemmas.List.{take_all}
+use Rattle.std.proofs.lemmas.List.{take_all, length-map}
 use Rattle.std.proofs.lemmas.Option.{slice_get_within}
 use Rattle.aol_shape.specs.Lists.{numbers_from}
-use Rattle.aol_expr_tree.specs.declared.port.Port.{Port}
 use Rattle.aol_model_types.specs.declared.document.Model.{Model}
 use Rattle.aol_model_types.specs.declared.task.Task.{Task}
 use Rattle.aol_model_types.specs.declared.task.Task.TheVariants as tasks
 use Rattle.aol_model_types.specs.Rules.{inputs_of}
 use Rattle.aol_flat.specs.Tasks.{main_outputs}
-use Rattle.aol_flat.specs.Place.{Place, Element, IsElement, task_at, elements_of}
-use Rattle.aol_flat.specs.Instance.{Instance, Run, Copy, instances, copy_end, copy_source, of_task, places_of_sizes, port_sizes, port_element, read_element, read_sizes, read_elements}
+use Rattle.aol_flat.specs.Place.{Element, IsElement, elements_of}
+use Rattle.aol_flat.specs.Instance.{Instance, Run, Copy, instances, copy_source, of_task, places_of_sizes, port_sizes, port_element, read_sizes, read_elements}
 use Rattle.aol_flat.specs.Laid.{Laid, IsLaid, IsReadOf, main_input_elements, main_output_elements}
-use Rattle.aol_flat.specs.Level.{WritesCell, AreWriters}
-use Rattle.aol_flat.specs.Reads.{Reading, reading_at, instance_readings, main_readings, readings, IsGiven, IsRead, AllGiven, IsFirstFailing, IsFirstUnwritten}
+use Rattle.aol_flat.specs.Level.{AreWriters}
+use Rattle.aol_flat.specs.Reads.{Reading, reading_at, instance_readings, main_readings, readings, IsGiven, AllGiven, IsFirstFailing}
 use Rattle.aol_flat.specs.Targets.{IsSingleAssignment}
 use Rattle.aol_flat.specs.Accept.{IsSound}
 use Rattle.aol_flat.specs.declared.view.Read.{Read}
@@ -33,10 +32,10 @@ use Rattle.aol_flat.proofs.Visiting.{numbered_more, numbered_rest}
 use Rattle.aol_flat_laws.proofs.OneWriter.{read_there}
 use Rattle.aol_assign.specs.Answers.{UnwrittenIs}
 use Rattle.aol_assign.specs.Cells.{IsGivenRead}
-use Rattle.aol_assign.specs.Holes.{is_given_by}
+use Rattle.aol_assign.specs.Holes.{is_given_by, cells_from}
 use Rattle.aol_assign.proofs.GivenCells.{given_by_cells}
 use Rattle.aol_assign.proofs.ListedCopies.{IsOfTask, listed_of}
-use Rattle.aol_assign.proofs.ReadingPlaces.{Aligned, aligned_get, aligned_element, ports_aligned}
+use Rattle.aol_assign.proofs.ReadingPlaces.{Aligned, aligned_get, aligned_element, ports_aligned, number_count}
 
 -- ---- the first that fails
 
@@ -202,21 +201,24 @@ module _ (f : Laid) (sound : IsSound f.model) (laid : IsLaid f) (single : IsSing
         let number : x ≡ at.number = omega (arith, at.shifted) in
         let z = zip_get (IsReadOf f) es reads zip at.number at.member at.at in
         let r : Reading = record { reader = who; port = p.0; rank = p.1; element = z.0 } in
-        let there : slice_get rs at.number ≡ Some r = aligned_get who rs ps es line at.number z.0 p z.1 (ap (slice_get ps) (sym number) ∙ place) in
-        (r,
-        record {
-          number = at.number;
-          at = there;
-          fails = λ g.
-              let given = (given_by_cells f sound laid single z.0 at.member (exist z.0 (get_among es at.number z.0 z.1)) z.2).0 g in
-              let no : true ≡ false = sym (given_test at.member given) ∙ not_true (is_given_by list inputs at.member) at.passes in
-              cc;
-          before = λ k s lt h.
-              let e = aligned_element who rs ps es line k s h in
-              let y = get_zip (IsReadOf f) es reads zip k s.element e in
-              given_there k s h y.0 y.1 (at.before k y.0 lt y.1);
-        },
-        refl, refl, refl)
+        let there : slice_get rs at.number ≡ Some r = aligned_get who rs ps es line at.number z.0 p z.1 (ap (slice_get ps) (sym number) ∙ place) in (
+          r,
+          record {
+            number = at.number;
+            at = there;
+            fails = λ g.
+                let given = (given_by_cells f sound laid single z.0 at.member (exist z.0 (get_among es at.number z.0 z.1)) z.2).0 g in
+                let no : true ≡ false = sym (given_test at.member given) ∙ not_true (is_given_by list inputs at.member) at.passes in
+                cc;
+            before = λ k s lt h.
+                let e = aligned_element who rs ps es line k s h in
+                let y = get_zip (IsReadOf f) es reads zip k s.element e in
+                given_there k s h y.0 y.1 (at.before k y.0 lt y.1);
+          },
+          refl,
+          refl,
+          refl,
+        )
 
   -- ---- an instance
 
@@ -283,3 +285,16 @@ module _ (f : Laid) (sound : IsSound f.model) (laid : IsLaid f) (single : IsSing
     main_hole x port rank found place =
         let h = hole_told Main (main_readings f.model) (places_of_sizes 0 (port_sizes (main_outputs f.model))) (main_output_elements f.model) (main_aligned f.model) reads zip exist x found (port, rank) place in
         record { reading = h.0; is_first = first_after IsReadGiven all_before (main_readings f.model) h.0 given_before h.1; same_reader = sym h.2; same_port = sym h.3; same_point = sym h.4 }
+
+-- a hole among so many cells has a number under that
+pub hole_under : (t : Read → Bool) (first count x : ℕ) → position_from t 0 (cells_from first count) ≡ Some x → x < count
+hole_under t first count x found =
+    let at = found_position t 0 (cells_from first count) x found in
+    let under = slice_get_within (cells_from first count) at.number at.member at.at in
+    omega (arith, at.shifted, under, length-map (numbers_from first count) (λ c. Cell c), number_count first count)
+
+-- a position is under the length
+pub position_under : (t : Read → Bool) (rs : List Read) (x : ℕ) → position_from t 0 rs ≡ Some x → x < length rs
+position_under t rs x found =
+    let at = found_position t 0 rs x found in
+    omega (arith, at.shifted, slice_get_within rs at.number at.member at.at)

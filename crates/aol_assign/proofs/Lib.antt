@@ -14,3 +14,5 @@ pub mod GivenHomes
 pub mod GivenCells
 pub mod ReadingPlaces
 pub mod HolesTold
+pub mod MainCells
+pub mod LeafNumbers

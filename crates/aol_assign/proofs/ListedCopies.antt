@@ -1,9 +1,9 @@
 -- What is known of the listed instances, and the writing of a copy.
-use Rattle.std.proofs.Common.{◌≡◌, ℕ, zero, suc, ◌+◌, Bool, true, cond, ◌&&◌, List, [], ◌∷◌, ◌++◌, length, map, flat_map, Option, Some, None, is_some, slice_get, option_map, unwrap_or, option_and_then, find, sym, ◌∙◌, ap, refl, arith, subst, inl, inr}
+use Rattle.std.proofs.Common.{◌≡◌, ℕ, zero, suc, ◌+◌, Bool, true, cond, ◌&&◌, List, [], ◌∷◌, ◌++◌, length, map, flat_map, Option, Some, None, is_some, slice_get, option_map, unwrap_or, find, sym, ◌∙◌, ap, refl, arith, subst, inl, inr}
 use Rattle.std.specs.List.{IsAmong, enumerate_from}
 use Rattle.aol_shape.specs.Lists.{same}
 use Rattle.aol_shape.specs.Shape.{IsPointOf, points}
-use Rattle.aol_tiler.specs.Tiler.{fits, address_point}
+use Rattle.aol_tiler.specs.Tiler.{address_point}
 use Rattle.aol_expr_tree.specs.declared.port.Port.{Port}
 use Rattle.aol_model_types.specs.declared.document.Model.{Model}
 use Rattle.aol_model_types.specs.declared.place.Key.TheVariants.{KReshapes}
@@ -14,16 +14,16 @@ use Rattle.aol_model_types.specs.declared.task.Part.{Part}
 use Rattle.aol_model_types.specs.declared.task.Task.{Task}
 use Rattle.aol_model_types.specs.declared.task.Task.TheVariants as tasks
 use Rattle.aol_model_types.specs.Places.{to_key}
-use Rattle.aol_model_types.specs.Rules.{task_named, inputs_of, inputs_named, outputs_of, port_shape, part_named, same_part, copied_checks, gives, takes, source_fits, target_fits, to_shape}
+use Rattle.aol_model_types.specs.Rules.{task_named, inputs_of, inputs_named, port_shape, part_named, same_part, copied_checks, gives, takes, source_fits, target_fits, to_shape}
 use Rattle.aol_flat.specs.Tasks.{main_task, part_number}
-use Rattle.aol_flat.specs.Place.{Place, IntoPart, Element, task_at, end_element, instance_of_end}
+use Rattle.aol_flat.specs.Place.{Place, IntoPart, Element, task_at, instance_of_end}
 use Rattle.aol_flat.specs.Node.{Node, ToPart, ToBody, space_around, place_on, nodes}
 use Rattle.aol_flat.specs.Instance.{Leaf, reshape_leaf, leaves_below, leaves, Instance, Run, Copy, instance_on, leaf_instances, instances, end_shape, copy_target}
 use Rattle.aol_flat.specs.Targets.{Writing, Target, writings_of, targets, node_targets, reshape_target, reshape_writings, earlier_writing, IsSingleAssignment}
 use Rattle.aol_flat.specs.Wired.{IsInput, IsOutput}
 use Rattle.aol_flat.specs.Accept.{IsSound}
 use Rattle.aol_flat.specs.declared.view.Writer.{Writer}
-use Rattle.aol_flat.proofs.Among.{among_append, among_map, among_flat_map, among_get, get_among, map_among, points_inside}
+use Rattle.aol_flat.proofs.Among.{among_append, among_map, among_flat_map, get_among, map_among, points_inside}
 use Rattle.aol_flat.proofs.Checked.{IsTaskOf, member, of_compound, named_earlier}
 use Rattle.aol_flat.proofs.Elements.{node_first}
 use Rattle.aol_flat.proofs.Enumerate.{on_node, with_number}
@@ -34,7 +34,6 @@ use Rattle.aol_flat.proofs.LinkRules.{part_at, part_name}
 use Rattle.aol_flat.proofs.LinkSides.{task_there, taken_input, output_there, at_input, at_output}
 use Rattle.aol_flat.proofs.Names.{both-true, same-self}
 use Rattle.aol_flat.proofs.Numbered.{copy_instance}
-use Rattle.aol_flat.proofs.Once.{found_among}
 use Rattle.aol_flat.proofs.OneWriting.{pair_among, only_writing, found_by_name}
 use Rattle.aol_flat.proofs.Real.{IsGood, good_part, good_body, fits_both, shape_at_end}
 

@@ -1,14 +1,14 @@
 -- Going over the pairs of a tiler, and marking their points.
-use Rattle.std.proofs.Common.{◌≡◌, ℕ, zero, suc, ◌+◌, ◌<◌, ◌≤◌, ◌≢◌, List, [], ◌∷◌, ◌++◌, length, map, take, drop, get_or, Bool, true, false, cond, is_some, Option, Some, None, slice_get, sym, ◌∙◌, ap, refl, arith, subst, add-one}
+use Rattle.std.proofs.Common.{◌≡◌, ℕ, zero, suc, ◌+◌, ◌<◌, ◌≤◌, ◌≢◌, List, [], ◌∷◌, ◌++◌, length, map, take, drop, get_or, Bool, true, false, cond, is_some, Option, Some, None, slice_get, sym, ◌∙◌, ap, refl, arith, subst}
 use Rattle.std.specs.Prelude.{slice_set}
-use Rattle.std.proofs.lemmas.List.{append_assoc, append-nil, take_all, get_or-set_same, get_or-set_other, length-set}
+use Rattle.std.proofs.lemmas.List.{append_assoc, append-nil, get_or-set_same, get_or-set_other, length-set}
 use Rattle.aol_shape.specs.Lists.{same}
 use Rattle.aol_shape.specs.Shape.{IsPointOf, size, rank, point_at}
 use Rattle.aol_shape.proofs.Points.{rank-lt-size, point_at-rank, point_at-is, rank-point_at}
 use Rattle.aol_flat.specs.Targets.{Writing, earlier_writing, first_repeat}
 use Rattle.aol_flat.proofs.Names.{same-self, same-equal}
 use Rattle.aol_assign.specs.declared.marks.Hit.{Hit}
-use Rattle.aol_assign.specs.Marks.{AreMarks, IsHit, AreNew, MarksOn, IsEarliest}
+use Rattle.aol_assign.specs.Marks.{AreMarks, MarksOn, IsEarliest}
 use Rattle.aol_assign.proofs.WritingRanks.{written_rank}
 
 -- ---- the next of a list

@@ -1,15 +1,14 @@
 -- The places of reads by port and rank, and the readings there.
-use Rattle.std.proofs.Common.{◌≡◌, ℕ, zero, suc, ◌+◌, ◌-◌, ◌<◌, ◌≤◌, Bool, true, false, cond, ◌&&◌, List, [], ◌∷◌, ◌++◌, length, map, flat_map, filter_map, drop, get_or, Option, Some, None, slice_get, option_map, option_and_then, unwrap_or, sym, ◌∙◌, ap, refl, arith, subst, add-one}
+use Rattle.std.proofs.Common.{◌≡◌, ℕ, zero, suc, ◌+◌, ◌-◌, ◌<◌, ◌≤◌, Bool, true, false, cond, List, [], ◌∷◌, ◌++◌, length, map, filter_map, drop, get_or, Option, Some, None, slice_get, option_map, option_and_then, sym, ◌∙◌, ap, refl, arith, subst, add-one}
 use Rattle.std.specs.Prelude.{sum, fold, nat_lt}
 use Rattle.std.proofs.Common.{lt-ltb}
-use Rattle.std.specs.Option.{option_to_list}
 use Rattle.std.proofs.Math.Seq.{drop-cons}
 use Rattle.std.proofs.lemmas.List.{length-map, length-append, append_assoc}
 use Rattle.std.proofs.lemmas.List.Elements.{filter_map-append}
 use Rattle.aol_shape.specs.Lists.{numbers_from, numbers_below}
-use Rattle.aol_shape.specs.Shape.{size, point_at, points}
+use Rattle.aol_shape.specs.Shape.{size, point_at}
 use Rattle.aol_expr_tree.specs.declared.port.Port.{Port}
-use Rattle.aol_flat.specs.Place.{Place, Element, port_elements, elements_of}
+use Rattle.aol_flat.specs.Place.{Place, Element, elements_of}
 use Rattle.aol_flat.specs.Instance.{places_of_sizes, port_sizes, element_of_port, port_element}
 use Rattle.aol_flat.specs.Reads.{Reading, reading_at}
 use Rattle.std.specs.List.{position_from}
@@ -29,7 +28,7 @@ get_pair k a zero x h = absurd (omega (arith, h))
 get_pair k a (suc n) zero h = let e : a ≡ a + 0 = omega arith in ap (λ y. Some (pair k y)) e
 get_pair k a (suc n) (suc x) h = let e : (a + 1) + x ≡ a + suc x = omega arith in get_pair k (a + 1) n x (omega (arith, h)) ∙ ap (λ y. Some (pair k y)) e
 
-number_count : (a n : ℕ) → length (numbers_from a n) ≡ n
+pub number_count : (a n : ℕ) → length (numbers_from a n) ≡ n
 number_count a zero = refl
 number_count a (suc n) = ap suc (number_count (a + 1) n)
 

@@ -5,7 +5,6 @@ use Rattle.std.specs.Prelude.{OnOk, IfErr}
 use Rattle.std.proofs.lemmas.List.{append-nil, map-append, take_all}
 use Rattle.std.proofs.lemmas.Grind.{flat_map-append}
 use Rattle.aol_shape.specs.Lists.{first_some}
-use Rattle.aol_expr_tree.specs.declared.port.Port.{Port}
 use Rattle.aol_model_types.specs.declared.document.Model.{Model}
 use Rattle.aol_model_types.specs.declared.task.Compound.{Compound}
 use Rattle.aol_model_types.specs.declared.task.Elementary.{Elementary}
@@ -14,11 +13,11 @@ use Rattle.aol_model_types.specs.declared.task.Repeated.{Repeated}
 use Rattle.aol_model_types.specs.declared.task.Task.{Task}
 use Rattle.aol_model_types.specs.declared.task.Task.TheVariants as tasks
 use Rattle.aol_model_types.specs.Rules.{task_named, inputs_named}
-use Rattle.aol_flat.specs.Node.{Node, ToPart, ToBody, root_or, steps_text, node_path, nodes, nodes_below, node_task, branch_text}
+use Rattle.aol_flat.specs.Node.{Node, ToPart, ToBody, root_or, steps_text, node_path, nodes, nodes_below, node_task}
 use Rattle.aol_flat.specs.Tasks.{main_task}
 use Rattle.aol_flat.specs.Numbered.{StandOnEarlier, number_named}
 use Rattle.aol_flat.specs.Targets.{Target, Twice, IsSingleAssignment, target_twice, node_targets, first_repeat, Writing, reshape_target, output_target}
-use Rattle.aol_flat.specs.Walked.{StandsAt, IsStep, AreBelow, nodes_in}
+use Rattle.aol_flat.specs.Walked.{StandsAt, AreBelow, nodes_in}
 use Rattle.aol_flat.proofs.Agree.{IsAmong-tail}
 use Rattle.aol_flat.proofs.Among.{among_append, among_map, among_flat_map, map_among, get_among, among_get}
 use Rattle.aol_flat.proofs.Twice.{twice_is_found}

@@ -1,11 +1,9 @@
 -- The list of the writers of cells grows instance by instance.
-use Rattle.std.proofs.Common.{◌≡◌, ◌≢◌, ◌↔◌, ℕ, zero, suc, ◌+◌, ◌<◌, ◌≤◌, Bool, true, false, ◌==◌, List, [], ◌∷◌, length, replicate, Option, Some, None, slice_get, sym, ◌∙◌, ap, refl, arith, ◌⊎◌, inl, inr, subst}
+use Rattle.std.proofs.Common.{◌≡◌, ◌≢◌, ℕ, zero, suc, ◌+◌, ◌<◌, List, [], ◌∷◌, length, Option, Some, slice_get, sym, ◌∙◌, ap, refl, arith, ◌⊎◌, inl, inr, subst}
 use Rattle.std.specs.Prelude.{slice_set}
-use Rattle.std.specs.List.{IsAmong, AllByRecursion, AllZip}
+use Rattle.std.specs.List.{IsAmong, AllZip}
 use Rattle.std.proofs.lemmas.Option.{slice_get_within}
 use Rattle.std.proofs.lemmas.List.{length-set}
-use Rattle.aol_model_types.specs.declared.document.Model.{Model}
-use Rattle.aol_flat.specs.Place.{Element}
 use Rattle.aol_flat.specs.Instance.{Instance, instances, written_elements}
 use Rattle.aol_flat.specs.Laid.{Laid, IsLaid, IsCellOf}
 use Rattle.aol_flat.specs.Level.{WritesCell, AreWriters}

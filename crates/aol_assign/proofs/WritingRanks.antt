@@ -1,6 +1,5 @@
 -- The writings of a tiler, pair by pair.
-use Rattle.std.proofs.Common.{◌≡◌, ℕ, zero, suc, ◌+◌, ◌*◌, ◌/◌, ◌%◌, ◌<◌, ◌≤◌, List, [], ◌∷◌, ◌++◌, length, map, flat_map, take, drop, Option, Some, None, slice_get, sym, ◌∙◌, ap, refl, arith, subst}
-use Rattle.std.specs.List.{IsAmong}
+use Rattle.std.proofs.Common.{◌≡◌, ℕ, zero, suc, ◌+◌, ◌*◌, ◌/◌, ◌%◌, ◌<◌, ◌≤◌, List, [], ◌∷◌, ◌++◌, length, map, flat_map, Some, slice_get, sym, ◌∙◌, ap, refl, arith, subst}
 use Rattle.std.proofs.lemmas.List.{map-append, length-append, length-map}
 use Rattle.aol_shape.specs.Lists.{numbers_from, numbers_below}
 use Rattle.aol_shape.specs.Shape.{IsShape, IsPointOf, size, rank, point_at, points}

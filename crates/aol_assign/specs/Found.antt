@@ -1,5 +1,5 @@
 -- The first point of some targets that is written twice, and when their tilers fit.
-use Rattle.std.specs.Prelude.{◌≡◌, ℕ, List, map, true, ◌&&◌, slice_get, Option, Some, None, option_map}
+use Rattle.std.specs.Prelude.{◌≡◌, ℕ, List, map, true, slice_get, Option, Some, option_map}
 use Rattle.std.specs.List.{AllByRecursion, IsAmong}
 use Rattle.aol_shape.specs.Lists.{same, first_some}
 use Rattle.aol_shape.specs.Shape.{IsShape}

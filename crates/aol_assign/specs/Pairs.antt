@@ -1,8 +1,8 @@
 -- Tilers that write one array, and their pairs.
-use Rattle.std.specs.Prelude.{◌≡◌, ℕ, ◌+◌, ◌*◌, ◌/◌, ◌%◌, List, [], ◌∷◌, ◌++◌, flat_map, Bool, false, is_some, slice_index_or, Option, Some, None, option_map}
-use Rattle.aol_shape.specs.Shape.{IsShape, IsPointOf, size, rank, point_at}
+use Rattle.std.specs.Prelude.{◌≡◌, ℕ, ◌*◌, ◌/◌, ◌%◌, List, flat_map}
+use Rattle.aol_shape.specs.Shape.{IsShape, size, point_at}
 use Rattle.aol_tiler.specs.Tiler.{Fits}
-use Rattle.aol_flat.specs.Targets.{Writing, writings_of, earlier_writing, first_repeat}
+use Rattle.aol_flat.specs.Targets.{Writing, writings_of}
 use Rattle.aol_flat.specs.declared.view.Writer.{Writer}
 use Rattle.aol_assign.specs.declared.pairs.Member.{Member}
 

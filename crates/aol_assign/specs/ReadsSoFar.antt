@@ -1,10 +1,13 @@
 -- The reads of the first instances, and how far these are given.
-use Rattle.std.specs.Prelude.{◌≡◌, ℕ, ◌+◌, List, flat_map, take, length, slice_get, Option, Some, Result, Ok, Err}
+use Rattle.std.specs.Prelude.{◌≡◌, ℕ, ◌<◌, ◌^◌, sum, List, [], ◌∷◌, flat_map, take, length, slice_get, Option, Some, Result, Ok, Err}
 use Rattle.std.specs.List.{enumerate_from}
 use Rattle.aol_model_types.specs.declared.document.Model.{Model}
-use Rattle.aol_flat.specs.Instance.{leaves, instances}
+use Rattle.aol_model_types.specs.declared.task.Task.{Task}
+use Rattle.aol_model_types.specs.Rules.{inputs_of}
+use Rattle.aol_flat.specs.declared.leaf.LeafKind.{LeafKind}
+use Rattle.aol_flat.specs.declared.leaf.LeafKind.TheVariants as kinds
+use Rattle.aol_flat.specs.Instance.{Instance, instances, port_sizes, read_sizes}
 use Rattle.aol_flat.specs.Laid.{Laid, main_input_elements}
-use Rattle.aol_flat.specs.Leaves.{instances_of}
 use Rattle.aol_flat.specs.Level.{AreWriters}
 use Rattle.aol_flat.specs.Reads.{Reading, instance_readings, IsGiven, AllGiven}
 use Rattle.aol_flat.specs.Targets.{IsSingleAssignment}
@@ -39,11 +42,16 @@ abbrev pub EndsReads : Model → ℕ → Result (Unit {0}) AssignRefused → Typ
 EndsReads m n (Ok done) = AreGivenBefore m n
 EndsReads m n (Err e) = IsUnwrittenTold m e
 
--- the reads of a leaf's instances after those of all leaves before it
-abbrev pub ReadsLeaf : Model → ℕ → Result (Unit {0}) AssignRefused → Type 0
-ReadsLeaf m leaf result = AreGivenBefore m (instances_of (take leaf (leaves m))) → EndsReads m (instances_of (take (leaf + 1) (leaves m))) result
-
 -- the main outputs after all instances
 abbrev pub ReadsMain : Model → Result (Unit {0}) AssignRefused → Type 0
 ReadsMain m (Ok done) = AllGiven m
 ReadsMain m (Err e) = IsUnwrittenTold m e
+
+-- what the kind of a leaf says of the sizes that an instance of it reads
+abbrev pub HasReadSizes : Model → Instance → LeafKind → Type 0
+HasReadSizes m i (kinds.Elementary k) = (t : Task) × (slice_get m.tasks k ≡ Some t) × (read_sizes m i ≡ port_sizes (inputs_of t))
+HasReadSizes m i kinds.Copy = read_sizes m i ≡ 1 ∷ []
+
+-- an instance of a leaf of this kind has a read with this number
+abbrev pub IsReadNumber : Model → LeafKind → ℕ → Type 0
+IsReadNumber m kind number = (i : Instance) × HasReadSizes m i kind × (number < sum (read_sizes m i)) × (length (read_sizes m i) < 2 ^ 32)

@@ -7,7 +7,7 @@ use Rattle.aol_model_types.specs.declared.task.Compound.{Compound}
 use Rattle.aol_model_types.specs.declared.task.Task.{Task}
 use Rattle.aol_model_types.specs.declared.task.Task.TheVariants as tasks
 use Rattle.aol_model_types.specs.Rules.{task_named}
-use Rattle.aol_flat.specs.Node.{Node, Branch, node_task, nodes, nodes_below, node_path, steps_text}
+use Rattle.aol_flat.specs.Node.{Node, Branch, node_task, nodes_below, node_path, steps_text}
 use Rattle.aol_flat.specs.Numbered.{number_named}
 use Rattle.aol_flat.specs.Targets.{Twice, target_twice, node_targets}
 use Rattle.aol_flat.specs.Walked.{StandsAt, IsStep, AreBelow, nodes_in}

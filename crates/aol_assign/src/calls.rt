@@ -10,7 +10,7 @@ ghost use Rattle.aol_assign.specs.ReadsSoFar.{ReadsMain};
 use crate::reads::{main_input_count, test_reads};
 use crate::refused::AssignRefused;
 use crate::twice::test_single;
-use crate::writer_list::{Writers, cell_count, writer_list};
+use crate::writer_list::{Writers, writer_list};
 use aol_flat::Flat;
 use std::alloc::Global;
 
@@ -26,7 +26,6 @@ pub fn writers(alloc: Global, flat: &Flat) -> Result<Writers, AssignRefused>
     test_single(alloc, flat)?;
     writer_list(alloc, flat)
 }
-
 
 /// The same where also every element that is read is given, by a main input, a default number, an elementary task or a
 /// reshape. `Unwritten` tells the first read that isn't, by instance, port and rank, and then the main outputs.
@@ -48,7 +47,7 @@ fn test_given(alloc: Global, flat: &Flat, found: &Writers) -> Result<(), AssignR
     ensures { ReadsMain flat.now.model result }
 {
     flat.model();
-    cell_count(flat)?;
+    let _cells = flat.cells();
     let inputs = main_input_count(alloc, flat)?;
     test_reads(alloc, flat, found.list(), inputs)
 }

@@ -1,15 +1,17 @@
 //! The one writer of each cell.
 
-ghost use Rattle.std.specs.Prelude.{◌≡◌, ◌<◌, length, slice_get, Some, None, ℕ, OnOk, IfOk, IfErr};
+ghost use Rattle.std.specs.Prelude.{◌≡◌, ◌+◌, ◌<◌, take, length, slice_get, Some, None, ℕ, OnOk, IfOk, IfErr};
 ghost use Rattle.std.specs.List.{AllByRecursion};
 ghost use Rattle.aol_flat.specs.Accept.{IsFlat};
 ghost use Rattle.aol_flat.specs.Instance.{leaves};
+ghost use Rattle.aol_flat.specs.Leaves.{IsLeafRow, instances_of};
 ghost use Rattle.aol_flat.specs.Level.{AreWriters};
 ghost use Rattle.aol_flat.specs.Targets.{IsSingleAssignment};
-ghost use Rattle.aol_assign.specs.WriterList.{put_all, HasWriters, PutsLeaf};
+ghost use Rattle.aol_assign.specs.WriterList.{put_all, HasWriters};
+ghost use Rattle.aol_flat.specs.LeafCursor.{writes_each};
 
 use crate::refused::AssignRefused;
-use aol_flat::Flat;
+use aol_flat::{Flat, Leaf, LeafWrites};
 use aol_shape::{Items, NoMemory};
 use std::alloc::{AllocError, Global};
 
@@ -54,14 +56,64 @@ fn put(list: &mut [Option<u32>], cells: &[u32], number: u32)
     }
 }
 
+/// Puts one instance of a leaf at the cells that it writes.
+fn put_one(
+    flat: &Flat,
+    writes: &mut LeafWrites,
+    row: &Leaf,
+    number: u32,
+    cells: &mut [u32],
+    list: &mut [Option<u32>],
+)
+    requires leaf { IsLeafRow flat.now.model writes.old.leaf row.now }
+    requires within { number < row.now.count }
+    requires flat { IsFlat flat.now }
+    requires single { IsSingleAssignment flat.now.model }
+    requires cursor { writes.old.flat ≡ flat.now }
+    requires many { length cells.old ≡ writes_each writes.old.flat.model writes.old.leaf }
+    requires has { HasWriters flat.now (row.now.base + number) list.old }
+    ensures same { writes.new ≡ writes.old }
+    ensures has { HasWriters flat.now (row.now.base + (number + 1)) list.new }
+{
+    writes.of(number, cells);
+    put(list, cells, row.base + number);
+}
+
+/// Puts the instances of a leaf at the cells that they write; `cells` has room for those of one.
+fn put_instances(
+    flat: &Flat,
+    leaf: u32,
+    writes: &mut LeafWrites,
+    cells: &mut [u32],
+    list: &mut [Option<u32>],
+)
+    requires within { leaf < length (leaves flat.now.model) }
+    requires flat { IsFlat flat.now }
+    requires single { IsSingleAssignment flat.now.model }
+    requires cursor { writes.old.flat ≡ flat.now }
+    requires at { writes.old.leaf ≡ leaf }
+    requires many { length cells.old ≡ writes_each writes.old.flat.model writes.old.leaf }
+    requires has { HasWriters flat.now (instances_of (take leaf (leaves flat.now.model))) list.old }
+    ensures { HasWriters flat.now (instances_of (take (leaf + 1) (leaves flat.now.model))) list.new }
+{
+    let row = flat.leaf(leaf);
+    for number in 0..row.count {
+        put_one(flat, writes, row, number, cells, list);
+    }
+}
+
 /// Puts the instances of a leaf at the cells that they write.
 fn put_leaf(alloc: Global, flat: &Flat, leaf: u32, list: &mut [Option<u32>]) -> Result<(), NoMemory>
     requires within { leaf < length (leaves flat.now.model) }
     requires flat { IsFlat flat.now }
     requires single { IsSingleAssignment flat.now.model }
-    ensures { OnOk result (PutsLeaf flat.now leaf list.old list.new) }
+    requires has { HasWriters flat.now (instances_of (take leaf (leaves flat.now.model))) list.old }
+    ensures { OnOk result (HasWriters flat.now (instances_of (take (leaf + 1) (leaves flat.now.model))) list.new) }
 {
-    Err(NoMemory)
+    let mut writes = flat.writes(alloc, leaf)?;
+    let mut cells = vec![in alloc; 0u32; writes.many() as usize]?;
+    put_instances(flat, leaf, &mut writes, &mut cells, list);
+    Ok(())
 }
 
 /// Puts the instances of all leaves at the cells that they write.
@@ -93,16 +145,9 @@ pub fn writer_list(alloc: Global, flat: &Flat) -> Result<Writers, AssignRefused>
     ensures memory { IfErr result (λ e. e ≡ AssignRefused.NoMemory) }
 {
     flat.model();
-    let mut list = no_writers(alloc, cell_count(flat)? as usize)?;
+    let mut list = no_writers(alloc, flat.cells() as usize)?;
     put_leaves(alloc, flat, &mut list)?;
     Ok(Writers {
         of_cell: Items::from_vec(list),
     })
-}
-
-/// stub: becomes flat.cells()
-pub fn cell_count(flat: &Flat) -> Result<u32, NoMemory>
-    ensures { IfOk result (λ n. n ≡ length flat.now.cells) }
-{
-    Err(NoMemory)
 }

@@ -1,4 +1,4 @@
-use Rattle.std.proofs.Common.{◌≡◌, ◌+◌, not, sym, ◌∙◌, ap, arith}
+use Rattle.std.proofs.Common.{not, sym, ◌∙◌, ap, arith}
 use Rattle.aol_assign.specs.Holes.{is_given_by}
 use Rattle.aol_assign.proofs.ReadingPlaces.{cells_on}
 use Rattle.aol_assign.proofs.holes.first_bare.Goals as goal

@@ -1,4 +1,4 @@
-use Rattle.std.proofs.Common.{◌≡◌, ◌+◌, ◌-◌, ◌<◌, ◌≤◌, sum, drop, get_or, ◌∙◌, ap, arith, slice_get}
+use Rattle.std.proofs.Common.{◌≡◌, ◌+◌, ◌≤◌, sum, drop, get_or, ◌∙◌, ap, arith, slice_get}
 use Rattle.aol_flat.specs.Instance.{places_of_sizes}
 use Rattle.aol_assign.proofs.ReadingPlaces.{place_here, place_later, sizes_at, sum_cons}
 use Rattle.aol_assign.proofs.holes.place_of.Goals as goal

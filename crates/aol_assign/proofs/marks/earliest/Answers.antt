@@ -1,6 +1,6 @@
-use Rattle.std.proofs.Common.{◌<◌, length, arith}
+use Rattle.std.proofs.Common.{arith}
 use Rattle.aol_shape.specs.Shape.{point_at}
-use Rattle.aol_assign.specs.Pairs.{FitsIn, member_writings}
+use Rattle.aol_assign.specs.Pairs.{FitsIn}
 use Rattle.aol_assign.proofs.Members.{at_index, at_place, goes_past, stops_here, pairs_counted}
 use Rattle.aol_assign.proofs.marks.earliest.Goals as goal
 

@@ -1,5 +1,4 @@
-use Rattle.std.proofs.Common.{◌<◌, length, ◌∙◌, arith}
-use Rattle.aol_assign.specs.Pairs.{FitsIn, member_writings}
+use Rattle.std.proofs.Common.{◌∙◌, arith}
 use Rattle.aol_assign.proofs.Members.{at_place, marks_all, hit_address, hit_number, hit_told}
 use Rattle.aol_assign.proofs.marks.first_repeat.Goals as goal
 

@@ -1,5 +1,4 @@
-use Rattle.std.proofs.Common.{◌≡◌, ◌<◌, ◌^◌, length, sym, ◌∙◌, refl, arith}
-use Rattle.aol_shape.specs.Shape.{size}
+use Rattle.std.proofs.Common.{◌<◌, ◌^◌, length, sym, ◌∙◌, arith}
 use Rattle.aol_assign.specs.Pairs.{member_writings}
 use Rattle.aol_assign.proofs.Members.{writings_walked, writings_inside, few_writings}
 use Rattle.aol_assign.proofs.Marking.{seeking_begins, seeks_more, sought_found, seeking_ends, sought_within}

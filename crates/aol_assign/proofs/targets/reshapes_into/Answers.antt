@@ -1,4 +1,4 @@
-use Rattle.std.proofs.Common.{◌≡◌, ◌+◌, ◌<◌, List, length, get_or, Option, sym, ◌∙◌, ap, refl, arith}
+use Rattle.std.proofs.Common.{◌≡◌, ◌<◌, List, length, get_or, sym, ◌∙◌, ap, refl, arith}
 use Rattle.std.specs.Global.{Vec}
 use Rattle.std.specs.Option.{option_copied}
 use Rattle.aol_model_types.specs.Rules.{same_part}

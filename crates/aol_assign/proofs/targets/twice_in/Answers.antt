@@ -1,5 +1,4 @@
-use Rattle.std.proofs.Common.{◌≡◌, List, map, get_or, true, false, Option, Some, None, slice_get, is_some, sym, ◌∙◌, ap, refl}
-use Rattle.aol_expr_tree.specs.declared.port.Port.{Port}
+use Rattle.std.proofs.Common.{◌≡◌, map, get_or, true, false, Option, Some, None, slice_get, is_some, sym, ◌∙◌, ap, refl}
 use Rattle.aol_model_types.specs.declared.task.Part.{Part}
 use Rattle.aol_model_types.specs.declared.task.Task.{Task}
 use Rattle.aol_model_types.specs.declared.task.Task.TheVariants as tasks

@@ -1,4 +1,4 @@
-use Rattle.std.proofs.Common.{◌≡◌, ◌<◌, ◌++◌, List, length, map, get_or, Some, None, sym, ◌∙◌, ap, arith, subst}
+use Rattle.std.proofs.Common.{◌≡◌, ◌<◌, List, length, map, get_or, Some, None, sym, ◌∙◌, ap, arith, subst}
 use Rattle.aol_expr_tree.specs.declared.port.Port.{Port}
 use Rattle.aol_model_types.specs.declared.task.Part.{Part}
 use Rattle.aol_model_types.specs.declared.task.Task.TheVariants as tasks

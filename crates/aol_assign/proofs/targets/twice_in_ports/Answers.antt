@@ -1,4 +1,4 @@
-use Rattle.std.proofs.Common.{◌≡◌, ◌<◌, List, length, sym, ◌∙◌, ap, arith, subst}
+use Rattle.std.proofs.Common.{List, sym, ◌∙◌, ap, arith, subst}
 use Rattle.std.specs.Option.{option_copied}
 use Rattle.aol_flat.proofs.Among.{among_get, get_among}
 use Rattle.aol_assign.specs.declared.targets.Numbered.{Numbered}

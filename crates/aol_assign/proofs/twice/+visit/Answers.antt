@@ -1,15 +1,14 @@
-use Rattle.std.proofs.Common.{rules, ◌≡◌, ◌+◌, ◌<◌, length, map, get_or, List, ℕ, Some, Ok, Err, slice_get, refl, sym, ◌∙◌, ap, subst, arith}
+use Rattle.std.proofs.Common.{◌≡◌, ◌+◌, ◌<◌, length, map, get_or, List, ℕ, Some, Ok, Err, slice_get, refl, sym, ◌∙◌, ap, subst, arith}
 use Rattle.std.specs.List.{IsAmong}
 use Rattle.std.proofs.lemmas.Result.{err_from_is_err_and}
 use Rattle.aol_model_types.specs.declared.task.Part.{Part}
-use Rattle.aol_model_types.specs.declared.task.Task.{Task}
 use Rattle.aol_model_types.specs.declared.task.Task.TheVariants as tasks
 use Rattle.aol_flat.specs.Numbered.{number_named}
 use Rattle.aol_flat.proofs.Among.{among_get, get_among, map_among}
 use Rattle.aol_flat.proofs.Order.{stand_on_earlier}
 use Rattle.aol_flat.proofs.TaskNumbers.{found}
 use Rattle.aol_assign.specs.Visits.{GoesBelow, GoesDown, GoesOverParts}
-use Rattle.aol_assign.proofs.TwiceWalk.{Answer, GoesUnder, first_stops, node_first, under_elementary, under_compound, under_repeated, nowhere, leads, front_more, front_stops, front_all}
+use Rattle.aol_assign.proofs.TwiceWalk.{Answer, first_stops, node_first, under_elementary, under_compound, under_repeated, nowhere, leads, front_more, front_stops, front_all}
 use Rattle.aol_assign.proofs.twice.+visit.Goals as goal
 
 pub visit-returns-in_err-test_node : goal.visit-returns-in_err-test_node

@@ -1,5 +1,4 @@
-use Rattle.std.proofs.Common.{◌≡◌, List, sym, ◌∙◌, ap, subst}
-use Rattle.aol_model_types.specs.declared.document.Model.{Model}
+use Rattle.std.proofs.Common.{sym, ◌∙◌, ap, subst}
 use Rattle.aol_flat.specs.Numbered.{number_named}
 use Rattle.aol_flat.specs.Targets.{IsSingleAssignment}
 use Rattle.aol_assign.proofs.TwiceWalk.{no_main}

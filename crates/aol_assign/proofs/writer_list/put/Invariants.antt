@@ -1,4 +1,4 @@
-use Rattle.std.proofs.Common.{◌≡◌, drop, length}
+use Rattle.std.proofs.Common.{◌≡◌, drop}
 use Rattle.aol_assign.specs.WriterList.{put_all}
 use Rattle.aol_assign.proofs.writer_list.put.Given as goal
 

@@ -1,5 +1,4 @@
-use Rattle.std.proofs.Common.{◌≡◌, ◌<◌, length, get_or, Some, sym, ◌∙◌, ap, arith}
-use Rattle.aol_flat.specs.Numbered.{number_named}
+use Rattle.std.proofs.Common.{◌≡◌, length, get_or, sym, ◌∙◌, ap, arith}
 use Rattle.aol_flat.proofs.TaskNumbers.{found, none_from}
 use Rattle.aol_flat.proofs.Among.{among_get}
 use Rattle.aol_assign.proofs.tasks.Tasks.named.Goals as goal

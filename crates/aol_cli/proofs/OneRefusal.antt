@@ -21,7 +21,7 @@ use Rattle.aol_cli.specs.ModelAnswer.{limited, written_twice, unwritten, in_cycl
 use Rattle.aol_cli.specs.OneRefusal.{OneRefusal, AcceptedIsNotRefused}
 use Rattle.aol_cli.specs.Refused.{reading_words, twice_words}
 use Rattle.aol_cli.specs.Reply.{refusal}
-use Rattle.aol_cli.proofs.OneReply.{one_found, not_both}
+use Rattle.aol_cli.proofs.OneFound.{one_found, not_both}
 
 -- a list has one first member at which a fact fails
 first_failing_one : {X : Type 0} (P : X → Type 0) (xs : List X) (x y : X) → IsFirstFailing P xs x → IsFirstFailing P xs y → x ≡ y

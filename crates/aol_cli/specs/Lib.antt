@@ -16,3 +16,5 @@ pub mod Refused
 pub mod ModelAnswer
 pub mod OneRefusal
 pub mod Checked
+pub mod AcceptedAnswer
+pub mod SoundDocument

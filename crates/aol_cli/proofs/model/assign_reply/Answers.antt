@@ -1,0 +1,15 @@
+use Rattle.std.proofs.Common.{◌≡◌, sym, ap, subst, rules}
+use Rattle.aol_assign.specs.Answers.{IsRightlyTold, TwiceIs, UnwrittenIs}
+use Rattle.aol_flat.specs.Targets.{IsSingleAssignment}
+use Rattle.aol_cli.specs.ModelAnswer.{ModelRefused}
+use Rattle.aol_cli.proofs.model.assign_reply.Goals as goal
+use Rattle.aol_cli.proofs.Replies.{made_of}
+use Rattle.aol_cli.proofs.Tested.{twice_told, read_told, unwritten_told}
+
+pub unwritten_reply-requires : goal.unwritten_reply-requires
+unwritten_reply-requires c = read_told _ _ _ _ (subst (IsRightlyTold c.args.flat.now.model) c.in-Unwritten.is c.requires.told).1
+
+pub returns-in-Unwritten : goal.returns-in-Unwritten
+returns-in-Unwritten c =
+    let told = subst (IsRightlyTold c.args.flat.now.model) c.in-Unwritten.is c.requires.told in
+    made_of (ModelRefused c.args.flat.now.model) c.unwritten_reply.result _ c.unwritten_reply.ensures (unwritten_told _ _ _ _ c.requires.bounded told.0 told.1)

@@ -1,5 +1,5 @@
 -- From what the tests of a model that is laid out tell to what is answered for it.
-use Rattle.std.proofs.Common.{◌≡◌, ℕ, ◌<◌, List, [], ◌∷◌, length, Option, Some, codes, sym, subst, rw}
+use Rattle.std.proofs.Common.{◌≡◌, ℕ, ◌<◌, List, [], ◌∷◌, length, Option, Some, codes, refl, sym, subst}
 use Rattle.std.specs.List.{IsAmong}
 use Rattle.std.proofs.lemmas.Option.{slice_get_within}
 use Rattle.aol_vsl.specs.Text.{shape_text}
@@ -21,8 +21,10 @@ use Rattle.aol_flat_laws.proofs.AcyclicLevels.{acyclic_is_levelled}
 use Rattle.aol_flat_laws.proofs.LevelsBridge.{levels_are_of_model, loops_are_cycles}
 use Rattle.aol_assign.specs.Answers.{TwiceIs, UnwrittenIs}
 use Rattle.aol_depend.specs.Gather.{AreEntries}
+use Rattle.aol_depend.specs.declared.refused.DependRefused.{DependRefused}
+use Rattle.aol_depend.specs.declared.refused.DependRefused.TheVariants as depends
 use Rattle.aol_cli.specs.declared.status.StatusKind.TheVariants as statuses
-use Rattle.aol_cli.specs.ModelAnswer.{ModelRefused, limited, written_twice, unwritten}
+use Rattle.aol_cli.specs.ModelAnswer.{IsCycleTold, ModelRefused, limited, written_twice, unwritten}
 use Rattle.aol_cli.specs.Refused.{IsReadBy, reading_words, target_text, twice_words, writer_words}
 use Rattle.aol_cli.specs.Reply.{refusal}
 
@@ -52,15 +54,19 @@ module _ (f : Laid) (list : List (Option ℕ)) (writers : AreWriters f list) whe
   module _ (sound : IsSound f.model) (single : IsSingleAssignment f.model) where
     -- the levels are those of the model
     pub levels_told : (level : List ℕ) → ((reads : Reads) × AreReads f reads × AreLevels reads list level) → AreLevelsOf f.model level
-    levels_told level h = (levels_are_of_model f h.0 list sound h.1.0 writers single level).0 h.1.1
+    levels_told level h = (levels_are_of_model f h.0 list sound h.1 writers single level).0 h.2
 
     -- so is the first instance of a loop
     pub cycle_told : (j : ℕ) → ((reads : Reads) × AreReads f reads × IsFirstInLoop reads list j) → IsFirstInCycle f.model j
-    cycle_told j h = (loops_are_cycles f h.0 list sound h.1.0 writers single j).0 h.1.1
+    cycle_told j h = (loops_are_cycles f h.0 list sound h.1 writers single j).0 h.2
+
+    pub refusal_told : (e : DependRefused) → ((j : ℕ) → e ≡ depends.Cycle j → (reads : Reads) × AreReads f reads × IsFirstInLoop reads list j) → IsCycleTold f.model e
+    refusal_told (depends.Cycle j) h = cycle_told j (h j refl)
+    refusal_told depends.NoMemory h = tt
 
 -- an instance of a cycle is one of the model
 pub cycle_within : (m : Model) (j : ℕ) → IsFirstInCycle m j → j < length (instances m)
-cycle_within m j c = let next = c.in_cycle.goes_on j c.in_cycle.within in slice_get_within (instances m) j next.1.1.reader next.1.1.at_reader
+cycle_within m j c = let next = c.in_cycle.goes_on j c.in_cycle.within in slice_get_within (instances m) j next.2.reader next.2.at_reader
 
 -- a model with levels is accepted
 pub levelled_accepted : (m : Model) (level : List ℕ) → IsSound m → IsBounded m → IsSingleAssignment m → AllGiven m → AreLevelsOf m level → IsAccepted m

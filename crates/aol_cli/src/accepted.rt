@@ -139,11 +139,11 @@ fn wrong_input<'a>(inputs: &'a [InputArray], ports: &'a [Port]) -> Option<(&'a s
     }
 }
 
-/// Whether there are steps.
-fn has_steps(job: &Job) -> bool
-    ensures { IsTrue result ↔ ¬ (job.now.transform ≡ []) }
+/// Whether there are no steps.
+fn has_no_steps(job: &Job) -> bool
+    ensures { IsTrue result ↔ (job.now.transform ≡ []) }
 {
-    !job.transform.is_empty()
+    job.transform.is_empty()
 }
 
 /// The reply to a placement.
@@ -153,7 +153,7 @@ fn place_answer(alloc: Global, flat: &Flat, job: &Job, workers: u32) -> Result<R
     requires workers { ArePlaced workers }
     ensures { IfOk result (λ r. PlaceAnswers (record { model = flat.now.model; job = job.now }) workers (reply_of r)) }
 {
-    if has_steps(job) {
+    if !has_no_steps(job) {
         return refusal(alloc, StatusKind::Unbuilt, &[]);
     }
     match allocate(alloc, flat, &job.allocate, workers) {

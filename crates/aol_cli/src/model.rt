@@ -9,7 +9,7 @@ ghost use Rattle.aol_flat.specs.Targets.{IsSingleAssignment};
 ghost use Rattle.aol_assign.specs.Answers.{IsRightlyTold};
 ghost use Rattle.aol_cli.specs.Answer.{DocumentAnswers};
 ghost use Rattle.aol_cli.specs.Lent.{lent_text};
-ghost use Rattle.aol_cli.specs.ModelAnswer.{ModelRefused};
+ghost use Rattle.aol_cli.specs.ModelAnswer.{IsCycleTold, ModelRefused};
 ghost use Rattle.aol_cli.specs.Reply.{refusal, reply_of};
 ghost use Rattle.aol_cli.specs.SoundDocument.{IsSoundDocument};
 ghost use Rattle.aol_cli.specs.Words.{IsAsked};
@@ -77,6 +77,20 @@ fn assign_reply(alloc: Global, flat: &Flat, refused: &AssignRefused) -> Result<R
     }
 }
 
+/// The refusal of a model in which instances need one another in a circle.
+fn loop_reply(alloc: Global, flat: &Flat, refused: &DependRefused) -> Result<Reply, NoMemory>
+    requires bounded { IsBounded flat.now.model }
+    requires single { IsSingleAssignment flat.now.model }
+    requires given { AllGiven flat.now.model }
+    requires told { IsCycleTold flat.now.model refused.now }
+    ensures { IfOk result (λ r. ModelRefused flat.now.model (reply_of r)) }
+{
+    match refused {
+        DependRefused::Cycle { instance } => cycle_reply(alloc, flat, *instance),
+        DependRefused::NoMemory => Err(NoMemory),
+    }
+}
+
 /// The reply for a model in which each element that is read is given once.
 fn given_reply(
     alloc: Global,
@@ -95,8 +109,7 @@ fn given_reply(
 {
     match levels(alloc, flat, writers.list()) {
         Ok(levels) => accepted_answer(alloc, command, flat, job, &levels),
-        Err(DependRefused::Cycle { instance }) => cycle_reply(alloc, flat, instance),
-        Err(DependRefused::NoMemory) => Err(NoMemory),
+        Err(refused) => loop_reply(alloc, flat, &refused),
     }
 }
 

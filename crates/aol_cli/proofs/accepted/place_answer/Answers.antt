@@ -14,8 +14,8 @@ place_reply-requires-clause-placed c = c.in-Ok.ensures.placement.many
 pub place_reply-requires-clause-few : goal.place_reply-requires-clause-few
 place_reply-requires-clause-few c = omega (arith, c.in-Ok.ensures.placement.many, numbers_small c.args.flat.now.model c.requires.kept.sound c.requires.bounded)
 
-pub returns-then-has_steps : goal.returns-then-has_steps
-returns-then-has_steps c =
+pub returns-then-not-has_no_steps : goal.returns-then-not-has_no_steps
+returns-then-not-has_no_steps c =
     let some : ¬ (c.args.job.now.transform ≡ []) = search rules in
     made_of (PlaceAnswers (record { model = c.args.flat.now.model; job = c.args.job.now }) c.args.workers) c.refusal.result _ c.refusal.ensures (steps some)
 

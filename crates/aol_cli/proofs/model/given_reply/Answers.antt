@@ -1,13 +1,12 @@
-use Rattle.std.proofs.Common.{◌≡◌, sym, subst, rules}
-use Rattle.aol_flat.specs.InstanceNeed.{AreLevelsOf, IsFirstInCycle}
+use Rattle.std.proofs.Common.{◌≡◌, Err, sym, subst, ap}
+use Rattle.aol_flat.specs.InstanceNeed.{AreLevelsOf}
 use Rattle.aol_flat.specs.Level.{AreWriters}
-use Rattle.aol_depend.specs.Gather.{AreEntries}
 use Rattle.aol_cli.specs.AcceptedAnswer.{AcceptedAnswers}
 use Rattle.aol_cli.specs.Answer.{DocumentAnswers, refused, accepted}
-use Rattle.aol_cli.specs.ModelAnswer.{in_cycle}
+use Rattle.aol_cli.specs.ModelAnswer.{ModelRefused}
 use Rattle.aol_cli.proofs.model.given_reply.Goals as goal
-use Rattle.aol_cli.proofs.Replies.{made_of, carried}
-use Rattle.aol_cli.proofs.Tested.{entries_told, levels_told, cycle_told, cycle_within, levelled_accepted}
+use Rattle.aol_cli.proofs.Replies.{carried}
+use Rattle.aol_cli.proofs.Tested.{entries_told, levels_told, refusal_told, levelled_accepted}
 
 pub levels-requires : goal.levels-requires
 levels-requires c = entries_told c.args.flat.now c.list.result.now (subst (AreWriters c.args.flat.now) (sym c.list.ensures) c.requires.writers)
@@ -16,10 +15,10 @@ pub accepted_answer-requires-clause-levels : goal.accepted_answer-requires-claus
 accepted_answer-requires-clause-levels c =
     levels_told c.args.flat.now c.list.result.now (subst (AreWriters c.args.flat.now) (sym c.list.ensures) c.requires.writers) c.requires.kept.sound c.requires.single c.in-Ok.levels c.in-Ok.ensures.levels
 
-pub cycle_reply-requires : goal.cycle_reply-requires
-cycle_reply-requires c =
-    cycle_within c.args.flat.now.model _
-    (cycle_told c.args.flat.now c.list.result.now (subst (AreWriters c.args.flat.now) (sym c.list.ensures) c.requires.writers) c.requires.kept.sound c.requires.single c.in-Err-Cycle.instance (c.in-Err-Cycle.ensures.cycle _ (search rules)))
+pub loop_reply-requires-clause-told : goal.loop_reply-requires-clause-told
+loop_reply-requires-clause-told c =
+    refusal_told c.args.flat.now c.list.result.now (subst (AreWriters c.args.flat.now) (sym c.list.ensures) c.requires.writers) c.requires.kept.sound c.requires.single c.in-Err.refused
+    (λ j e. c.in-Err.ensures.cycle j (ap Err e))
 
 pub returns-in-Ok : goal.returns-in-Ok
 returns-in-Ok c =
@@ -29,10 +28,7 @@ returns-in-Ok c =
     carried (AcceptedAnswers c.args.command (record { model = m; job = c.args.job.now })) (DocumentAnswers c.args.command (record { model = m; job = c.args.job.now })) c.accepted_answer.result
     (λ x p. accepted c.requires.kept.sound (levelled_accepted m c.in-Ok.levels c.requires.kept.sound c.requires.bounded c.requires.single c.requires.given levels) x p) c.accepted_answer.ensures
 
-pub returns-in-Err-Cycle : goal.returns-in-Err-Cycle
-returns-in-Err-Cycle c =
+pub returns-in-Err : goal.returns-in-Err
+returns-in-Err c =
     let m = c.args.flat.now.model in
-    let first : IsFirstInCycle m c.in-Err-Cycle.instance =
-    cycle_told c.args.flat.now c.list.result.now (subst (AreWriters c.args.flat.now) (sym c.list.ensures) c.requires.writers) c.requires.kept.sound c.requires.single c.in-Err-Cycle.instance (c.in-Err-Cycle.ensures.cycle _ (search rules)) in
-    made_of (DocumentAnswers c.args.command (record { model = m; job = c.args.job.now })) c.cycle_reply.result _ c.cycle_reply.ensures
-    (refused c.requires.kept.sound _ (in_cycle c.requires.bounded c.requires.single c.requires.given c.in-Err-Cycle.instance first))
+    carried (ModelRefused m) (DocumentAnswers c.args.command (record { model = m; job = c.args.job.now })) c.loop_reply.result (λ x p. refused c.requires.kept.sound x p) c.loop_reply.ensures

@@ -50,7 +50,7 @@ pub line_more : (m : Model) (workers : List ℕ) (k : ℕ) (row : LeafRow) (old 
     → named ≡ old ++ row.path → placed ≡ named ++ flat_map worker_text (take row.count (drop row.base workers)) → after ≡ placed ++ codes "\n" → after ≡ leaf_lines m workers (take (k + 1) (leaves m))
 line_more m workers k row old named placed after r is name work feed =
     let ws : take row.count (drop row.base workers) ≡ take (size r.leaf.space) (drop (instances_of (take k (leaves m))) workers) =
-        ap (λ n. take n (drop row.base workers)) r.count ∙ ap (λ b. take (size r.leaf.space) (drop b workers)) r.base in
+    ap (λ n. take n (drop row.base workers)) r.count ∙ ap (λ b. take (size r.leaf.space) (drop b workers)) r.base in
     feed ∙ ap (λ t. t ++ codes "\n") (work ∙ ap (λ t. t ++ flat_map worker_text (take row.count (drop row.base workers))) name)
     ∙ joined old row.path (flat_map worker_text (take row.count (drop row.base workers)))
     ∙ ap (λ p. old ++ ((p ++ flat_map worker_text (take row.count (drop row.base workers))) ++ codes "\n")) r.path

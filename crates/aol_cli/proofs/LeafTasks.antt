@@ -1,5 +1,5 @@
 -- The task of a leaf that computes, and what its instances read.
-use Rattle.std.proofs.Common.{◌≡◌, ℕ, zero, suc, ◌+◌, ◌-◌, ◌<◌, ◌≤◌, nat_lt, Bool, true, false, List, [], ◌∷◌, ◌++◌, length, map, flat_map, take, get_or, Option, Some, None, slice_get, option_map, option_and_then, unwrap_or, codes, sym, ◌∙◌, ap, refl, arith, subst, inl, inr}
+use Rattle.std.proofs.Common.{◌≡◌, ℕ, zero, suc, ◌+◌, ◌-◌, ◌<◌, ◌≤◌, nat_lt, true, false, List, [], ◌∷◌, ◌++◌, length, map, flat_map, take, get_or, Option, Some, None, slice_get, option_map, option_and_then, unwrap_or, codes, sym, ◌∙◌, ap, refl, arith, subst, inl, inr}
 use Rattle.std.specs.List.{IsAmong, enumerate_from}
 use Rattle.std.proofs.lemmas.Bool.{lt-ltb, le-ltb}
 use Rattle.std.proofs.lemmas.List.{length-map}
@@ -10,7 +10,6 @@ use Rattle.aol_shape.proofs.Points.{point_at-is}
 use Rattle.aol_vsl.specs.Text.{shape_text}
 use Rattle.aol_expr_tree.specs.declared.port.Port.{Port}
 use Rattle.aol_model_types.specs.declared.document.Model.{Model}
-use Rattle.aol_model_types.specs.declared.task.Compound.{Compound}
 use Rattle.aol_model_types.specs.declared.task.Elementary.{Elementary}
 use Rattle.aol_model_types.specs.declared.task.Part.{Part}
 use Rattle.aol_model_types.specs.declared.task.Task.{Task}
@@ -21,14 +20,12 @@ use Rattle.aol_flat.specs.Place.{task_at}
 use Rattle.aol_flat.specs.Node.{Node, ToPart, ToBody, place_on, task_under, node_task}
 use Rattle.aol_flat.specs.Numbered.{number_named}
 use Rattle.aol_flat.specs.declared.leaf.Leaf.{Leaf as LeafRow}
-use Rattle.aol_flat.specs.declared.leaf.LeafKind.{LeafKind}
 use Rattle.aol_flat.specs.declared.leaf.LeafKind.TheVariants as kinds
 use Rattle.aol_flat.specs.declared.view.Reader.TheVariants.{Instance as ByInstance}
 use Rattle.aol_flat.specs.Accept.{IsSound}
-use Rattle.aol_flat.specs.Instance.{Leaf, Work, Computes, Copies, reshape_leaf, leaves_below, leaves, Instance, Run, Copy, instance_on, leaf_instances, instances, read_element, port_element}
+use Rattle.aol_flat.specs.Instance.{Leaf, Work, Computes, Copies, reshape_leaf, leaves_below, leaves, Run, instance_on, leaf_instances, read_element, port_element}
 use Rattle.aol_flat.specs.Leaves.{instances_of, IsLeafRow, kind_of}
 use Rattle.aol_flat.proofs.Among.{among_append, among_map, among_flat_map, among_get, get_among}
-use Rattle.aol_flat.proofs.Find.{and_then_some}
 use Rattle.aol_flat.proofs.Inside.{number_of_member}
 use Rattle.aol_flat.proofs.Names.{slice_get-left, slice_get-right}
 use Rattle.aol_flat.proofs.Real.{IsGood, good_part, good_body}
@@ -37,7 +34,7 @@ use Rattle.aol_flat.proofs.Totals.{length-numbers}
 use Rattle.aol_allocate.proofs.Points.{point_there}
 use Rattle.aol_cli.specs.Instance.{IsInLeaf}
 use Rattle.aol_cli.specs.Refused.{IsReadBy, port_words, input_words, input_among}
-use Rattle.aol_cli.proofs.Readers.{ReadsThere, reads_there, HasPoint, has_point}
+use Rattle.aol_cli.proofs.Readers.{reads_there, HasPoint, has_point}
 
 -- ---- the task of a leaf that computes
 

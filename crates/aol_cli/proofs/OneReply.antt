@@ -1,7 +1,6 @@
 -- The same bytes have one reply.
 use Rattle.std.proofs.Common.{◌≡◌, ℕ, List, [], ◌∷◌, length, codes, decimal, Bool, true, false, not, cond, ◌&&◌, Some, None, option_map, Result, refl, sym, ◌∙◌, ap, subst}
 use Rattle.std.specs.List.{find, list_all}
-use Rattle.serde_json.specs.Data.{Data}
 use Rattle.aol_model_types.specs.declared.document.Document.{Document}
 use Rattle.aol_model_types.specs.declared.document.Misfit.{Misfit}
 use Rattle.aol_model_types.specs.declared.document.Model.{Model}

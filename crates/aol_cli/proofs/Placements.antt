@@ -1,5 +1,5 @@
 -- The lines of a placement, one after another.
-use Rattle.std.proofs.Common.{◌≡◌, ◌<◌, ◌≤◌, ℕ, zero, suc, ◌+◌, List, [], ◌∷◌, ◌++◌, take, drop, length, slice_get, Some, get_or, sym, ◌∙◌, ap, refl, arith, append_assoc, append-nil, length-drop}
+use Rattle.std.proofs.Common.{◌≡◌, ◌<◌, ◌≤◌, ℕ, zero, suc, ◌+◌, List, [], ◌∷◌, ◌++◌, take, drop, length, slice_get, Some, get_or, sym, ◌∙◌, ap, arith, append_assoc, append-nil, length-drop}
 use Rattle.std.specs.Prelude.{codes, decimal}
 use Rattle.std.specs.List.{flat_map}
 use Rattle.std.proofs.lemmas.List.{take_more, drop-drop, get_or-drop}
@@ -11,7 +11,6 @@ use Rattle.aol_flat.specs.declared.leaf.Leaf.{Leaf as LeafRow}
 use Rattle.aol_flat.specs.Instance.{Leaf, leaves}
 use Rattle.aol_flat.specs.Leaves.{instances_of, IsLeafRow}
 use Rattle.aol_cli.specs.Placed.{worker_text, leaf_line, leaf_lines}
-use Rattle.aol_cli.proofs.Instances.{instances_more}
 
 -- one worker more
 pub worker_more : (workers : List ℕ) (base n w : ℕ) (text old spaced after : List ℕ) → slice_get workers (base + n) ≡ Some w → old ≡ text ++ flat_map worker_text (take n (drop base workers)) → spaced ≡ old ++ codes " " → after ≡ spaced ++ decimal w

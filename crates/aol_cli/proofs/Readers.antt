@@ -1,9 +1,9 @@
 -- What is read at a port and a rank, by an instance or by the caller.
-use Rattle.std.proofs.Common.{◌≡◌, ℕ, zero, suc, ◌+◌, ◌<◌, Bool, true, false, cond, List, [], ◌∷◌, flat_map, Option, Some, None, slice_get, option_map, option_and_then, unwrap_or, sym, ◌∙◌, ap, refl, arith, subst, inl, inr}
+use Rattle.std.proofs.Common.{◌≡◌, ℕ, zero, suc, ◌<◌, Bool, true, false, List, [], ◌∷◌, flat_map, Option, Some, None, slice_get, option_map, unwrap_or, sym, ◌∙◌, ap, refl, arith, subst, inl, inr}
 use Rattle.std.specs.Prelude.{filter_map, nat_lt}
 use Rattle.std.specs.List.{IsAmong, enumerate_from}
 use Rattle.std.proofs.lemmas.Bool.{ltb-true}
-use Rattle.aol_shape.specs.Shape.{size, point_at}
+use Rattle.aol_shape.specs.Shape.{size}
 use Rattle.aol_expr_tree.specs.declared.port.Port.{Port}
 use Rattle.aol_model_types.specs.declared.document.Model.{Model}
 use Rattle.aol_model_types.specs.declared.task.Task.{Task}

@@ -1,6 +1,5 @@
 -- From what the tests of a model that is laid out tell to what is answered for it.
-use Rattle.std.proofs.Common.{◌≡◌, ℕ, ◌<◌, List, [], ◌∷◌, length, Option, Some, codes, refl, sym, subst}
-use Rattle.std.specs.List.{IsAmong}
+use Rattle.std.proofs.Common.{◌≡◌, ℕ, ◌<◌, List, [], ◌∷◌, length, Option, codes, refl, sym, subst}
 use Rattle.std.proofs.lemmas.Option.{slice_get_within}
 use Rattle.aol_vsl.specs.Text.{shape_text}
 use Rattle.aol_model_types.specs.declared.document.Model.{Model}
@@ -25,7 +24,7 @@ use Rattle.aol_depend.specs.declared.refused.DependRefused.{DependRefused}
 use Rattle.aol_depend.specs.declared.refused.DependRefused.TheVariants as depends
 use Rattle.aol_cli.specs.declared.status.StatusKind.TheVariants as statuses
 use Rattle.aol_cli.specs.ModelAnswer.{IsCycleTold, ModelRefused, limited, written_twice, unwritten}
-use Rattle.aol_cli.specs.Refused.{IsReadBy, reading_words, target_text, twice_words, writer_words}
+use Rattle.aol_cli.specs.Refused.{IsReadBy, reading_words, target_text, writer_words}
 use Rattle.aol_cli.specs.Reply.{refusal}
 
 -- the first limit that is passed is told

@@ -8,7 +8,7 @@ use Rattle.aol_model_types.specs.Rules.{inputs_of}
 use Rattle.aol_flat.specs.Tasks.{main_outputs}
 use Rattle.aol_flat.specs.Node.{node_task, node_path}
 use Rattle.aol_flat.specs.Instance.{Leaf, Computes, Copies, leaves}
-use Rattle.aol_flat.specs.Targets.{Target, Twice}
+use Rattle.aol_flat.specs.Targets.{Twice}
 use Rattle.aol_flat.specs.Reads.{Reading, readings}
 use Rattle.aol_flat.specs.declared.view.Reader.{Reader}
 use Rattle.aol_flat.specs.declared.view.Reader.TheVariants.{Instance, Main}

@@ -1,5 +1,4 @@
-use Rattle.std.proofs.Common.{◌≡◌, ◌<◌, ◌^◌, [], length, sym, ap, subst, arith, rules, ◌∙◌}
-use Rattle.aol_flat.specs.Instance.{instances}
+use Rattle.std.proofs.Common.{◌≡◌, [], sym, subst, arith, rules}
 use Rattle.aol_assign.proofs.LeafNumbers.{numbers_small}
 use Rattle.aol_cli.specs.declared.status.StatusKind.TheVariants.{Done}
 use Rattle.aol_cli.specs.AcceptedAnswer.{PlaceAnswers, steps, unplaced, placed}

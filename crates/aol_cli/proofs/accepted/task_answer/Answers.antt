@@ -1,4 +1,4 @@
-use Rattle.std.proofs.Common.{◌≡◌, None, ◌∙◌, sym, ap, subst, rules}
+use Rattle.std.proofs.Common.{◌≡◌, None, ◌∙◌, sym, ap, subst}
 use Rattle.aol_cli.specs.AcceptedAnswer.{RunAnswers, wrong_input, run}
 use Rattle.aol_cli.specs.Inputs.{first_wrong_input}
 use Rattle.aol_cli.specs.Lent.{lent_pair}

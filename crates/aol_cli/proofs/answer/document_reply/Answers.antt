@@ -1,4 +1,4 @@
-use Rattle.std.proofs.Common.{◌≡◌, rules}
+use Rattle.std.proofs.Common.{rules}
 use Rattle.aol_cli.specs.Answer.{DocumentAnswers, misfit}
 use Rattle.aol_cli.proofs.answer.document_reply.Goals as goal
 use Rattle.aol_cli.proofs.Replies.{made_of}

@@ -1,4 +1,4 @@
-use Rattle.std.proofs.Common.{◌≡◌, ◌++◌, ◌∷◌, [], ◌∙◌, ap, sym, string_bytes, refl, append_assoc, List}
+use Rattle.std.proofs.Common.{◌++◌, ◌∙◌, ap, string_bytes, refl}
 use Rattle.std.proofs.lemmas.Result.{on_ok_weaker}
 use Rattle.aol_cli.proofs.Instances.{last_index, more_indices, after_index}
 use Rattle.aol_cli.proofs.instance.+push_indices.Goals as goal

@@ -1,9 +1,7 @@
-use Rattle.std.proofs.Common.{◌≡◌, ◌++◌, ◌-◌, ◌≤◌, ◌<◌, ap, sym, ◌∙◌, arith, string_bytes, Some, slice_get}
+use Rattle.std.proofs.Common.{◌++◌, ◌-◌, ap, sym, ◌∙◌}
 use Rattle.aol_shape.specs.Shape.{point_at, size}
 use Rattle.aol_vsl.specs.Text.{shape_text}
-use Rattle.aol_flat.specs.Instance.{Leaf, leaves}
-use Rattle.aol_flat.specs.Leaves.{instances_of}
-use Rattle.aol_cli.proofs.Instances.{told, Told, row_told}
+use Rattle.aol_cli.proofs.Instances.{row_told}
 use Rattle.aol_cli.proofs.instance.instance_name.Goals as goal
 
 pub push_point-requires-clause-points : goal.push_point-requires-clause-points

@@ -1,4 +1,4 @@
-use Rattle.std.proofs.Common.{◌≡◌, ◌≤◌, take, arith, ap, length, ◌∙◌}
+use Rattle.std.proofs.Common.{◌≡◌, take, arith, ap}
 use Rattle.aol_flat.specs.Instance.{leaves}
 use Rattle.aol_flat.specs.Leaves.{instances_of}
 use Rattle.aol_flat.proofs.Totals.{length-instances}

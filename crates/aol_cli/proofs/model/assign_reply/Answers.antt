@@ -1,6 +1,5 @@
-use Rattle.std.proofs.Common.{◌≡◌, sym, ap, subst, rules}
-use Rattle.aol_assign.specs.Answers.{IsRightlyTold, TwiceIs, UnwrittenIs}
-use Rattle.aol_flat.specs.Targets.{IsSingleAssignment}
+use Rattle.std.proofs.Common.{subst}
+use Rattle.aol_assign.specs.Answers.{IsRightlyTold, TwiceIs}
 use Rattle.aol_cli.specs.ModelAnswer.{ModelRefused}
 use Rattle.aol_cli.proofs.model.assign_reply.Goals as goal
 use Rattle.aol_cli.proofs.Replies.{made_of}

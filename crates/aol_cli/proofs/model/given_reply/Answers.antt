@@ -1,4 +1,4 @@
-use Rattle.std.proofs.Common.{◌≡◌, Err, sym, subst, ap}
+use Rattle.std.proofs.Common.{Err, sym, subst, ap}
 use Rattle.aol_flat.specs.InstanceNeed.{AreLevelsOf}
 use Rattle.aol_flat.specs.Level.{AreWriters}
 use Rattle.aol_cli.specs.AcceptedAnswer.{AcceptedAnswers}

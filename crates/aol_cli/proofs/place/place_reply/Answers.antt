@@ -1,9 +1,5 @@
-use Rattle.std.proofs.Common.{◌≡◌, ◌++◌, take, length, string_bytes, ap, ◌∙◌, arith}
-use Rattle.std.proofs.lemmas.List.{take_all}
-use Rattle.aol_flat.specs.Instance.{leaves}
-use Rattle.aol_flat.specs.Leaves.{instances_of}
+use Rattle.std.proofs.Common.{◌++◌, string_bytes, ap, ◌∙◌, arith}
 use Rattle.aol_flat.proofs.Totals.{length-instances}
-use Rattle.aol_cli.specs.Placed.{leaf_lines}
 use Rattle.aol_cli.proofs.Placements.{line_more, row_within}
 use Rattle.aol_cli.proofs.place.place_reply.Goals as goal
 

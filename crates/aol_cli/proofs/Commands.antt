@@ -5,8 +5,8 @@ use Rattle.std.specs.Option.{IsSome}
 use Rattle.aol_io.specs.Streams.{WasAll, TookAtMost}
 use Rattle.aol_cli.specs.declared.program.TheConstants.{MAX_BYTES}
 use Rattle.aol_cli.specs.declared.words.Command.{Command}
-use Rattle.aol_cli.specs.declared.words.Command.TheVariants.{Print, Run}
-use Rattle.aol_cli.specs.Words.{document, subject_of, ReadsSource}
+use Rattle.aol_cli.specs.declared.words.Command.TheVariants.{Check, Print, Run, Place}
+use Rattle.aol_cli.specs.Words.{document, subject_of, ReadsSource, ArePlaced, IsAsked, Means}
 use Rattle.aol_cli.specs.Answered.{SourceEnds, IsGiven, IsWithin}
 
 pub decimal_one : decimal 1 ≡ codes "1"
@@ -15,8 +15,14 @@ decimal_one = refl
 
 -- every command is about a document
 pub about_document : (c : Command) → subject_of c ≡ Some document
+about_document Check = refl
 about_document Print = refl
 about_document (Run n) = refl
+about_document (Place n) = refl
+
+-- a placement is asked for so many workers
+pub asked_workers : (c : Command) (n : ℕ) → IsAsked c → c ≡ Place n → ArePlaced n
+asked_workers c n asked is = (subst (Means asked.0) is asked.1).1
 
 module _ (c : Command) (about : subject_of c ≡ Some document) where
   -- it reads the source

@@ -5,5 +5,11 @@ pub mod RunReplies
 pub mod Checked
 pub mod Replies
 pub mod LineWords
-pub mod OneNode
+pub mod OneFound
 pub mod OneReply
+pub mod OneRefusal
+pub mod Tested
+pub mod Instances
+pub mod Placements
+pub mod Readers
+pub mod LeafTasks

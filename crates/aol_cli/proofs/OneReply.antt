@@ -1,64 +1,93 @@
 -- The same bytes have one reply.
-use Rattle.std.proofs.Common.{◌≡◌, ℕ, List, [], ◌∷◌, codes, decimal, Option, Some, None, Result, refl, sym, ◌∙◌, ap, subst}
-use Rattle.std.proofs.lemmas.Option.{none-some, same_Some}
-use Rattle.aol_shape.specs.declared.limit.LimitName.{LimitName}
+use Rattle.std.proofs.Common.{◌≡◌, ℕ, List, [], ◌∷◌, length, codes, decimal, Bool, true, false, not, cond, ◌&&◌, Some, None, option_map, Result, refl, sym, ◌∙◌, ap, subst}
+use Rattle.std.specs.List.{find, list_all}
 use Rattle.aol_model_types.specs.declared.document.Document.{Document}
 use Rattle.aol_model_types.specs.declared.document.Misfit.{Misfit}
 use Rattle.aol_model_types.specs.declared.document.Model.{Model}
 use Rattle.aol_model_types.specs.declared.job.InputArray.{InputArray}
-use Rattle.aol_model_types.specs.Places.{place_text, limit_text}
+use Rattle.aol_model_types.specs.Places.{place_text, whole}
 use Rattle.aol_model_types.specs.Reading.{Fault, document_in}
-use Rattle.aol_flat.specs.Node.{Node, node_path}
+use Rattle.aol_model_types.specs.Rules.{Check as RuleCheck, checks, first_misfit}
+use Rattle.aol_flat.specs.Accept.{IsSound}
+use Rattle.aol_flat.specs.Instance.{instances}
+use Rattle.aol_flat.specs.InstanceNeed.{level_count}
+use Rattle.aol_allocate.specs.declared.cause.PlaceCause.{PlaceCause}
 use Rattle.aol_cli.specs.declared.words.Command.{Command}
-use Rattle.aol_cli.specs.declared.words.Command.TheVariants.{Print, Run}
-use Rattle.aol_cli.specs.declared.status.StatusKind.TheVariants.{Shape, Limit, Input}
-use Rattle.aol_cli.specs.Words.{IsDetermined}
-use Rattle.aol_cli.specs.Reply.{ReplyOf, refusal}
+use Rattle.aol_cli.specs.declared.words.Command.TheVariants.{Check, Print, Run, Place}
+use Rattle.aol_cli.specs.declared.status.StatusKind.TheVariants.{Done, Shape, Input, Allocate}
+use Rattle.aol_cli.specs.AcceptedAnswer.{AcceptedAnswers, RunAnswers, unbuilt, wrong_input, run, PlaceAnswers, steps, unplaced, placed, IsCheckReply}
+use Rattle.aol_cli.specs.Answer.{DocumentAnswers, misfit, refused, accepted, TreeAnswers, wrong_form, text_limit, document, TextAnswers, no_json, tree, Answers, by_document}
+use Rattle.aol_cli.specs.Checked.{accepted_line, cause_words}
 use Rattle.aol_cli.specs.Inputs.{Unfit}
+use Rattle.aol_cli.specs.Reply.{ReplyOf, reply, refusal}
 use Rattle.aol_cli.specs.Run.{IsRunReply}
-use Rattle.aol_cli.specs.Answer.{BuiltAnswers, limited, print, wrong_input, run, DocumentAnswers, misfit, unbuilt, built, TreeAnswers, wrong_form, text_limit, document, TextAnswers, no_json, tree, Answers, by_document}
-
-one_found : {A : Type 0} (o : Option A) (a b : A) → o ≡ Some a → o ≡ Some b → a ≡ b
-one_found o a b e f = same_Some a b (sym e ∙ f)
-
-not_both : {A : Type 0} (o : Option A) (a : A) → o ≡ None → o ≡ Some a → ⊥
-not_both o a e f = none-some a (sym e ∙ f)
-
-not_print : (c : Command) (n : ℕ) → c ≡ Print → c ≡ Run n → ⊥
-not_print c n e f = cc
+use Rattle.aol_cli.specs.Words.{IsDetermined}
+use Rattle.aol_cli.proofs.OneFound.{one_found, not_both}
+use Rattle.aol_cli.proofs.OneRefusal.{one_refusal, accepted_not_refused, levels_agree}
 
 -- all solutions print one reply
 run_one : (m : Model) (inputs : List InputArray) (r q : ReplyOf) → IsRunReply m inputs r → IsRunReply m inputs q → r ≡ q
 run_one m inputs r q a b = a.of_every a.exists.0 a.exists.1 ∙ sym (b.of_every a.exists.0 a.exists.1)
 
-built_one : (c : Command) (d : Document) (r q : ReplyOf) → BuiltAnswers c d r → BuiltAnswers c d q → r ≡ q
-built_one c d _ _ (limited at n h) (limited by m g) = ap (λ (x : Node × LimitName). refusal Limit (node_path d.model x.0 ∷ limit_text x.1 ∷ [])) (one_found _ (at, n) (by, m) h g)
-built_one c d _ _ (limited at n h) (print g p) = absurd (not_both _ (at, n) g h)
-built_one c d _ _ (limited at n h) (wrong_input k g p name cause w) = absurd (not_both _ (at, n) g h)
-built_one c d _ _ (limited at n h) (run k g p w q s) = absurd (not_both _ (at, n) g h)
-built_one c d _ _ (print h p) (limited at n g) = absurd (not_both _ (at, n) h g)
-built_one c d _ _ (print h p) (print g s) = refl
-built_one c d _ _ (print h p) (wrong_input k g s name cause w) = absurd (not_print c k p s)
-built_one c d _ _ (print h p) (run k g s w q u) = absurd (not_print c k p s)
-built_one c d _ _ (wrong_input k h p name cause w) (limited at n g) = absurd (not_both _ (at, n) h g)
-built_one c d _ _ (wrong_input k h p name cause w) (print g s) = absurd (not_print c k s p)
-built_one c d _ _ (wrong_input k h p name cause w) (wrong_input j g s other why u) = ap (λ (x : Unfit). refusal Input (x.0 ∷ x.1 ∷ [])) (one_found _ (name, cause) (other, why) w u)
-built_one c d _ _ (wrong_input k h p name cause w) (run j g s u q v) = absurd (not_both _ (name, cause) u w)
-built_one c d _ _ (run k h p w r v) (limited at n g) = absurd (not_both _ (at, n) h g)
-built_one c d _ _ (run k h p w r v) (print g s) = absurd (not_print c k s p)
-built_one c d _ _ (run k h p w r v) (wrong_input j g s name cause u) = absurd (not_both _ (name, cause) w u)
-built_one c d _ _ (run k h p w r v) (run j g s u q z) = run_one _ _ r q v z
+-- a run has one reply
+ran_one : (d : Document) (r q : ReplyOf) → RunAnswers d r → RunAnswers d q → r ≡ q
+ran_one d _ _ (unbuilt h) (unbuilt g) = refl
+ran_one d _ _ (unbuilt h) (wrong_input e is name cause w) = absurd (h e is)
+ran_one d _ _ (unbuilt h) (run e is w q a) = absurd (h e is)
+ran_one d _ _ (wrong_input e is name cause w) (unbuilt g) = absurd (g e is)
+ran_one d _ _ (wrong_input e is name cause w) (wrong_input f so other why u) = ap (λ (x : Unfit). refusal Input (x.0 ∷ x.1 ∷ [])) (one_found _ (name, cause) (other, why) w u)
+ran_one d _ _ (wrong_input e is name cause w) (run f so u q a) = absurd (not_both _ (name, cause) u w)
+ran_one d _ _ (run e is w r a) (unbuilt g) = absurd (g e is)
+ran_one d _ _ (run e is w r a) (wrong_input f so name cause u) = absurd (not_both _ (name, cause) w u)
+ran_one d _ _ (run e is w r a) (run f so u q b) = run_one _ _ r q a b
+
+-- a placement has one reply
+placed_one : (d : Document) (n : ℕ) (r q : ReplyOf) → PlaceAnswers d n r → PlaceAnswers d n q → r ≡ q
+placed_one d n _ _ (steps h) (steps g) = refl
+placed_one d n _ _ (steps h) (unplaced is k c w) = absurd (h is)
+placed_one d n _ _ (steps h) (placed is w) = absurd (h is)
+placed_one d n _ _ (unplaced is k c w) (steps g) = absurd (g is)
+placed_one d n _ _ (unplaced is k c w) (unplaced so j b u) = ap (λ (x : ℕ × PlaceCause). refusal Allocate (decimal x.0 ∷ cause_words x.1)) (one_found _ (k, c) (j, b) w u)
+placed_one d n _ _ (unplaced is k c w) (placed so u) = absurd (not_both _ (k, c) u w)
+placed_one d n _ _ (placed is w) (steps g) = absurd (g is)
+placed_one d n _ _ (placed is w) (unplaced so k c u) = absurd (not_both _ (k, c) w u)
+placed_one d n _ _ (placed is w) (placed so u) = refl
+
+-- a check has one reply
+checked_one : (d : Document) (r q : ReplyOf) → IsCheckReply d r → IsCheckReply d q → r ≡ q
+checked_one d r q a b = a.is ∙ (ap (λ level. reply Done (accepted_line (length (instances d.model)) (level_count level))) (levels_agree d.model a.level b.level a.levels b.levels) ∙ sym b.is)
+
+-- so has each command for a document whose model is accepted
+accepted_one : (c : Command) (d : Document) (r q : ReplyOf) → AcceptedAnswers c d r → AcceptedAnswers c d q → r ≡ q
+accepted_one Check d r q a b = checked_one d r q a b
+accepted_one Print d r q a b = a ∙ sym b
+accepted_one (Run n) d r q a b = ran_one d r q a b
+accepted_one (Place n) d r q a b = placed_one d n r q a b
+
+-- no check fails where all hold
+none_fails : (xs : List RuleCheck) → list_all (λ c. c.holds) xs ≡ true → find (λ c. not c.holds) xs ≡ None
+none_fails [] h = refl
+none_fails (c ∷ xs) h = step c.holds h (none_fails xs)
+  where
+    step : (b : Bool) → (b && list_all (λ (k : RuleCheck). k.holds) xs) ≡ true → (list_all (λ (k : RuleCheck). k.holds) xs ≡ true → find (λ (k : RuleCheck). not k.holds) xs ≡ None)
+        → cond (not b) (Some c) (find (λ (k : RuleCheck). not k.holds) xs) ≡ None
+    step true g rest = rest g
+    step false g rest = cc
+
+-- a sound model breaks no rule
+no_misfit : (m : Model) (x : Misfit) → IsSound m → first_misfit m ≡ Some x → ⊥
+no_misfit m x sound h = not_both (first_misfit m) x (ap (option_map (λ (c : RuleCheck). record { place = whole c.steps; rule = c.rule })) (none_fails (checks m) sound.shapes)) h
 
 document_one : (c : Command) (d : Document) (r q : ReplyOf) → DocumentAnswers c d r → DocumentAnswers c d q → r ≡ q
 document_one c d _ _ (misfit place rule h) (misfit other number g) = ap (λ (x : Misfit). refusal Shape (place_text x.place ∷ codes "rule" ∷ decimal x.rule ∷ [])) (one_found _ _ _ h g)
-document_one c d _ _ (misfit place rule h) (unbuilt g u) = absurd (not_both _ _ g h)
-document_one c d _ _ (misfit place rule h) (built g e is q a) = absurd (not_both _ _ g h)
-document_one c d _ _ (unbuilt h u) (misfit place rule g) = absurd (not_both _ _ h g)
-document_one c d _ _ (unbuilt h u) (unbuilt g v) = refl
-document_one c d _ _ (unbuilt h u) (built g e is q a) = absurd (u e is)
-document_one c d _ _ (built h e is r a) (misfit place rule g) = absurd (not_both _ _ h g)
-document_one c d _ _ (built h e is r a) (unbuilt g u) = absurd (u e is)
-document_one c d _ _ (built h e is r a) (built g f so q b) = built_one c d r q a b
+document_one c d _ _ (misfit place rule h) (refused sound q a) = absurd (no_misfit _ _ sound h)
+document_one c d _ _ (misfit place rule h) (accepted sound is q a) = absurd (no_misfit _ _ sound h)
+document_one c d _ _ (refused sound r a) (misfit place rule g) = absurd (no_misfit _ _ sound g)
+document_one c d _ _ (refused sound r a) (refused so q b) = one_refusal d.model sound r q a b
+document_one c d _ _ (refused sound r a) (accepted so is q b) = absurd (accepted_not_refused d.model sound is r a)
+document_one c d _ _ (accepted sound is r a) (misfit place rule g) = absurd (no_misfit _ _ sound g)
+document_one c d _ _ (accepted sound is r a) (refused so q b) = absurd (accepted_not_refused d.model sound is q b)
+document_one c d _ _ (accepted sound is r a) (accepted so too q b) = accepted_one c d r q a b
 
 tree_one : (c : Command) (x : Result Document Fault) (r q : ReplyOf) → TreeAnswers c x r → TreeAnswers c x q → r ≡ q
 tree_one c _ _ _ (wrong_form place) (wrong_form _) = refl

@@ -4,15 +4,20 @@
 //! Its clause says how each call ends, by the definitions in `specs/Answered.antt`; read these first.
 #![tactic(auto)]
 
+mod accepted;
 mod answer;
+mod check;
 mod fault;
 mod inputs;
+mod instance;
 mod laws;
-mod limits;
 mod line;
+mod model;
 mod outputs;
+mod place;
 mod print;
 mod program;
+mod refused;
 mod reply;
 mod run;
 mod status;

@@ -11,17 +11,17 @@ ghost use Rattle.aol_cli.specs.Reply.{reply, reply_of};
 use crate::reply::Reply;
 use crate::status::StatusKind;
 use crate::text::push_text;
-use aol_model::{Document, value_of};
+use aol_model::{Job, Model, value_of};
 use aol_shape::NoMemory;
 use std::alloc::Global;
 
 /// The document as JSON without blanks: in version 2, keys in byte order, with canonical texts of shapes, vectors, tilers and expressions.
-pub fn print_reply(alloc: Global, document: &Document) -> Result<Reply, NoMemory>
-    requires types { IsDocument document.now.model document.now.job }
-    requires readable { IsReadable document.now.model document.now.job }
-    ensures { let tree = document_tree document.now.model document.now.job in IfOk result (λ r. reply_of r ≡ reply StatusKind.Done (line (compact_text tree))) }
+pub fn print_reply(alloc: Global, model: &Model, job: &Job) -> Result<Reply, NoMemory>
+    requires types { IsDocument model.now job.now }
+    requires readable { IsReadable model.now job.now }
+    ensures { let tree = document_tree model.now job.now in IfOk result (λ r. reply_of r ≡ reply StatusKind.Done (line (compact_text tree))) }
 {
-    let tree = value_of(alloc, &document.model, &document.job)?;
+    let tree = value_of(alloc, model, job)?;
     let mut text = tree.to_string(alloc)?;
     push_text(&mut text, "\n")?;
     Ok(Reply {

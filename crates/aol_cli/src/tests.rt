@@ -18,6 +18,42 @@ const SQUARE: &str =
 const ONES: &str =
     r#"{"allocate":[],"input":{},"model":{"main":"Ones","tasks":[{"in":[],"kind":"elementary","name":"Ones","out":[{"expr":"sum(k,1048576,1)","name":"y","shape":"{4095}"}]}]},"transform":[],"version":2}"#;
 
+/// A document of a filter over windows of three numbers.
+const FILTER: &str =
+    r#"{"allocate":[],"input":{"x":[1,2,3,4,5,6,7,8]},"model":{"main":"Filter","tasks":[{"in":[{"name":"w","shape":"{3}"}],"kind":"elementary","name":"Tap","out":[{"expr":"w{0}+w{1}+w{2}","name":"s","shape":"{}"}]},{"in":[{"name":"x","shape":"{8}"}],"kind":"repeated","links":[],"name":"Filter","out":[{"name":"y","shape":"{8}"}],"space":"{8}","task":"Tap","tilers":[{"inner":"w","outer":"x","tiler":"(origin={-1},paving={{1}},fitting={{1}})"},{"inner":"s","outer":"y","tiler":"(origin={0},paving={{1}},fitting={})"}]}]},"transform":[],"version":2}"#;
+
+/// A document in which two repetitions write one point.
+const SPREAD: &str =
+    r#"{"allocate":[],"input":{},"model":{"main":"Spread","tasks":[{"in":[{"name":"a","shape":"{}"}],"kind":"elementary","name":"Trip","out":[{"expr":"a{}+$0","name":"t","shape":"{3}"}]},{"in":[{"name":"x","shape":"{4}"}],"kind":"repeated","links":[],"name":"Spread","out":[{"name":"y","shape":"{8}"}],"space":"{4}","task":"Trip","tilers":[{"inner":"a","outer":"x","tiler":"(origin={0},paving={{1}},fitting={})"},{"inner":"t","outer":"y","tiler":"(origin={0},paving={{2}},fitting={{1}})"}]}]},"transform":[]}"#;
+
+/// A document in which a task reads every third point of nine, and two of each three are written.
+const PASS: &str =
+    r#"{"allocate":[],"input":{},"model":{"main":"Pass3","tasks":[{"in":[{"name":"a","shape":"{}"}],"kind":"elementary","name":"Pair","out":[{"expr":"a{}*10+$0","name":"t","shape":"{2}"}]},{"in":[{"name":"x","shape":"{3}"}],"kind":"repeated","links":[],"name":"Holes","out":[{"name":"y","shape":"{9}"}],"space":"{3}","task":"Pair","tilers":[{"inner":"a","outer":"x","tiler":"(origin={0},paving={{1}},fitting={})"},{"inner":"t","outer":"y","tiler":"(origin={0},paving={{3}},fitting={{1}})"}]},{"in":[{"name":"p","shape":"{3}"}],"kind":"elementary","name":"Add3","out":[{"expr":"p{0}+p{1}","name":"s","shape":"{}"}]},{"in":[{"name":"z","shape":"{9}"}],"kind":"repeated","links":[],"name":"Skip3","out":[{"name":"q","shape":"{3}"}],"space":"{3}","task":"Add3","tilers":[{"inner":"p","outer":"z","tiler":"(origin={0},paving={{3}},fitting={{1}})"},{"inner":"s","outer":"q","tiler":"(origin={0},paving={{1}},fitting={})"}]},{"in":[{"name":"x","shape":"{3}"}],"kind":"compound","links":[{"from":"x","to":"h.x"},{"from":"h.y","to":"s.z"},{"from":"s.q","to":"q"}],"name":"Pass3","out":[{"name":"q","shape":"{3}"}],"parts":[{"name":"h","task":"Holes"},{"name":"s","task":"Skip3"}],"reshapes":[]}]},"transform":[]}"#;
+
+/// A document in which each repetition needs the one before.
+const SUMS: &str =
+    r#"{"allocate":[],"input":{"x":[3,1,4,1,5,9]},"model":{"main":"Run6","tasks":[{"in":[{"name":"a","shape":"{}"},{"name":"t","shape":"{}"}],"kind":"elementary","name":"Acc","out":[{"expr":"a{}+t{}","name":"s","shape":"{}"}]},{"in":[{"name":"x","shape":"{6}"}],"kind":"repeated","links":[{"default":0,"distance":"{1}","from":"s","modulo":false,"to":"t"}],"name":"Run6","out":[{"name":"y","shape":"{6}"}],"space":"{6}","task":"Acc","tilers":[{"inner":"a","outer":"x","tiler":"(origin={0},paving={{1}},fitting={})"},{"inner":"s","outer":"y","tiler":"(origin={0},paving={{1}},fitting={})"}]}]},"transform":[]}"#;
+
+/// The same with a link that wraps.
+const ROUND: &str =
+    r#"{"allocate":[],"input":{},"model":{"main":"RunW","tasks":[{"in":[{"name":"a","shape":"{}"},{"name":"t","shape":"{}"}],"kind":"elementary","name":"Acc","out":[{"expr":"a{}+t{}","name":"s","shape":"{}"}]},{"in":[{"name":"x","shape":"{6}"}],"kind":"repeated","links":[{"default":null,"distance":"{1}","from":"s","modulo":true,"to":"t"}],"name":"RunW","out":[{"name":"y","shape":"{6}"}],"space":"{6}","task":"Acc","tilers":[{"inner":"a","outer":"x","tiler":"(origin={0},paving={{1}},fitting={})"},{"inner":"s","outer":"y","tiler":"(origin={0},paving={{1}},fitting={})"}]}]},"transform":[]}"#;
+
+/// A document with links in both directions.
+const TWO: &str =
+    r#"{"allocate":[],"input":{"x":[1,2,3]},"model":{"main":"Two","tasks":[{"in":[{"name":"a","shape":"{}"},{"name":"t","shape":"{}"}],"kind":"elementary","name":"Acc","out":[{"expr":"a{}+t{}","name":"s","shape":"{}"}]},{"in":[{"name":"a","shape":"{}"},{"name":"l","shape":"{}"},{"name":"r","shape":"{}"}],"kind":"compound","links":[{"from":"a","to":"f.a"},{"from":"l","to":"f.t"},{"from":"a","to":"g.a"},{"from":"r","to":"g.t"},{"from":"f.s","to":"p"},{"from":"g.s","to":"q"}],"name":"Both","out":[{"name":"p","shape":"{}"},{"name":"q","shape":"{}"}],"parts":[{"name":"f","task":"Acc"},{"name":"g","task":"Acc"}],"reshapes":[]},{"in":[{"name":"x","shape":"{3}"}],"kind":"repeated","links":[{"default":0,"distance":"{1}","from":"p","modulo":false,"to":"l"},{"default":0,"distance":"{-1}","from":"q","modulo":false,"to":"r"}],"name":"Two","out":[{"name":"y","shape":"{3}"},{"name":"z","shape":"{3}"}],"space":"{3}","task":"Both","tilers":[{"inner":"a","outer":"x","tiler":"(origin={0},paving={{1}},fitting={})"},{"inner":"p","outer":"y","tiler":"(origin={0},paving={{1}},fitting={})"},{"inner":"q","outer":"z","tiler":"(origin={0},paving={{1}},fitting={})"}]}]},"transform":[]}"#;
+
+/// A document with an entry that exchanges both indices.
+const GRID: &str =
+    r#"{"allocate":[{"from":"(origin={0,0},paving={{1,0},{0,1}},fitting={})","leaf":"/*","pattern":"{}","processors":"{2,2}","space":"{2,2}","to":"(origin={0,0},paving={{0,1},{1,0}},fitting={})"}],"input":{"x":[1,2,3,4]},"model":{"main":"Grid","tasks":[{"in":[{"name":"a","shape":"{}"}],"kind":"elementary","name":"Neg","out":[{"expr":"0-a{}","name":"s","shape":"{}"}]},{"in":[{"name":"x","shape":"{2,2}"}],"kind":"repeated","links":[],"name":"Grid","out":[{"name":"y","shape":"{2,2}"}],"space":"{2,2}","task":"Neg","tilers":[{"inner":"a","outer":"x","tiler":"(origin={0,0},paving={{1,0},{0,1}},fitting={})"},{"inner":"s","outer":"y","tiler":"(origin={0,0},paving={{1,0},{0,1}},fitting={})"}]}]},"transform":[],"version":2}"#;
+
+/// A document of one reshape.
+const FLIP: &str =
+    r#"{"allocate":[],"input":{"x":[1,2,3,4,5,6]},"model":{"main":"Flip","tasks":[{"in":[{"name":"x","shape":"{2,3}"}],"kind":"compound","links":[],"name":"Flip","out":[{"name":"y","shape":"{3,2}"}],"parts":[],"reshapes":[{"from":"x","pattern":"{3}","source":"(origin={0,0},paving={{1,0}},fitting={{0,1}})","space":"{2}","target":"(origin={0,0},paving={{0,1}},fitting={{1,0}})","to":"y"}]}]},"transform":[],"version":2}"#;
+
+/// A document of one repetition with more elements than the limit.
+const WIDE: &str =
+    r#"{"allocate":[],"input":{},"model":{"main":"Ten","tasks":[{"in":[{"name":"a","shape":"{}"},{"name":"b","shape":"{}"}],"kind":"elementary","name":"Neg","out":[{"expr":"0-a{}","name":"s","shape":"{}"}]},{"in":[{"name":"x","shape":"{4194304}"}],"kind":"repeated","links":[],"name":"Ten","out":[{"name":"y","shape":"{4194304}"}],"space":"{4194304}","task":"Neg","tilers":[{"inner":"a","outer":"x","tiler":"(origin={0},paving={{1}},fitting={})"},{"inner":"b","outer":"x","tiler":"(origin={0},paving={{1}},fitting={})"},{"inner":"s","outer":"y","tiler":"(origin={0},paving={{1}},fitting={})"}]}]},"transform":[]}"#;
+
 /// The words between blanks.
 fn words_of(alloc: Global, words: &str) -> Result<Vec<String>, Fail> {
     let mut given = Vec::new(alloc);
@@ -254,9 +290,9 @@ fn rules_and_what_is_unbuilt(rt: HostRuntime) -> Result<(), Fail> {
             ADD,
             r#"}]},"transform"#,
             r#"},{"in":[{"name":"a","shape":"{2,2}"},{"name":"b","shape":"{2,2}"}],"kind":"compound","links":[{"from":"a","to":"p.a"},{"from":"b","to":"p.b"},{"from":"p.y","to":"y"}],"name":"Up","out":[{"name":"y","shape":"{2,2}"}],"parts":[{"name":"p","task":"Add"}],"reshapes":[]}],"main":"Up"},"transform"#,
-            "print",
-            17,
-            "unbuilt",
+            "check",
+            0,
+            "accepted 1 instances 1 levels",
         ),
         (
             ADD,
@@ -272,8 +308,120 @@ fn rules_and_what_is_unbuilt(rt: HostRuntime) -> Result<(), Fail> {
             r#"{4095}"}]}]},"transform":[]"#,
             r#"{4096}"}]}]},"transform":[{"block":"{2}","kind":"tile","outer":"{2}","task":"Ones"}]"#,
             "run 1",
+            9,
+            "limit / work",
+        ),
+    ];
+    for (document, old, new, words, status, written) in cases {
+        let (code, line) = answer_of(rt.alloc(), document, old, new, words)?;
+        assert_eq!(rt; line.as_str(), written);
+        assert_eq!(rt; code, status);
+    }
+    Ok(())
+}
+
+/// A document is read, laid out and tested: what is accepted.
+#[test]
+fn models_that_are_accepted(rt: HostRuntime) -> Result<(), Fail> {
+    // the document, the words, the status and the line
+    let cases = [
+        (ADD, "check", 0, "accepted 1 instances 1 levels"),
+        (ONES, "check", 0, "accepted 1 instances 1 levels"),
+        (FILTER, "check", 0, "accepted 8 instances 1 levels"),
+        (SUMS, "check", 0, "accepted 6 instances 6 levels"),
+        (TWO, "check", 0, "accepted 6 instances 3 levels"),
+        (FLIP, "check", 0, "accepted 6 instances 1 levels"),
+        (FILTER, "print", 0, FILTER),
+        (GRID, "print", 0, GRID),
+        (FLIP, "print", 0, FLIP),
+        (FILTER, "run 1", 17, "unbuilt"),
+        (FILTER, "place 3", 0, "/* 0 0 0 1 1 1 2 2"),
+        (FLIP, "place 2", 0, "/#0 0 0 0 1 1 1"),
+        (ADD, "place 64", 0, "/ 0"),
+        (GRID, "place 1", 0, "/* 0 0 0 0"),
+        (GRID, "place 3", 0, "/* 0 2 1 0"),
+        (GRID, "place 64", 0, "/* 0 2 1 3"),
+    ];
+    for (document, words, status, written) in cases {
+        let (code, line) = answer_of(rt.alloc(), document, "", "", words)?;
+        assert_eq!(rt; line.as_str(), written);
+        assert_eq!(rt; code, status);
+    }
+    Ok(())
+}
+
+/// And what is refused, and why entries place nothing.
+#[test]
+fn models_that_are_refused(rt: HostRuntime) -> Result<(), Fail> {
+    // the document, a part of it, and what stands in its place; the words; the status and the line
+    let cases = [
+        (WIDE, "", "", "check", 9, "limit /* walk"),
+        (
+            SPREAD,
+            "",
+            "",
+            "check",
+            10,
+            "twice / y {2} first 1 {0} {2} second 1 {1} {0}",
+        ),
+        (
+            PASS,
+            r#"{"from":"x","to":"h.x"},{"from":"h.y","to":"s.z"},{"from":"s.q","to":"q"}],"name":"Pass3","out":[{"name":"q","shape":"{3}"}],"parts":[{"name":"h","task":"Holes"},{"name":"s","task":"Skip3"}],"reshapes":[]"#,
+            r#"{"from":"s.q","to":"q"}],"name":"Pass3","out":[{"name":"q","shape":"{3}"}],"parts":[{"name":"s","task":"Skip3"}],"reshapes":[{"from":"x","to":"s.z","space":"{3}","pattern":"{}","source":"(origin={0},paving={{1}},fitting={})","target":"(origin={0},paving={{3}},fitting={})"},{"from":"x","to":"s.z","space":"{3}","pattern":"{}","source":"(origin={0},paving={{1}},fitting={})","target":"(origin={1},paving={{1}},fitting={})"}]"#,
+            "print",
+            10,
+            "twice / s.z {3} first 0 {1} {} second 1 {2} {}",
+        ),
+        (PASS, "", "", "place 1", 11, "unwritten /s/*{0} p {2}"),
+        (
+            PASS,
+            r#""main":"Pass3""#,
+            r#""main":"Holes""#,
+            "run 1",
+            11,
+            "unwritten main y {2}",
+        ),
+        (
+            PASS,
+            r#",{"from":"h.y","to":"s.z"},{"from":"s.q","to":"q"}],"name":"Pass3","out":[{"name":"q","shape":"{3}"}],"parts":[{"name":"h","task":"Holes"},{"name":"s","task":"Skip3"}],"reshapes":[]"#,
+            r#"],"name":"Pass3","out":[{"name":"q","shape":"{9}"}],"parts":[{"name":"h","task":"Holes"}],"reshapes":[{"from":"h.y","to":"q","space":"{9}","pattern":"{}","source":"(origin={0},paving={{1}},fitting={})","target":"(origin={0},paving={{1}},fitting={})"}]"#,
+            "check",
+            11,
+            "unwritten /#0{2} from {}",
+        ),
+        (ROUND, "", "", "check", 12, "cycle /*{0}"),
+        (
+            GRID,
+            r#""transform":[]"#,
+            r#""transform":[{"block":"{2}","kind":"skew","outer":"{2}","task":"Grid"}]"#,
+            "place 3",
             17,
             "unbuilt",
+        ),
+        (
+            GRID,
+            "paving={{1,0},{0,1}}",
+            "paving={{1,0},{0,0}}",
+            "place 3",
+            15,
+            "allocate 0 twice {0,0}",
+        ),
+        (
+            GRID,
+            r#"paving={{1,0},{0,1}},fitting={})","leaf":"/*","pattern":"{}","processors":"{2,2}","space":"{2,2}""#,
+            r#"paving={{1,0},{0,0}},fitting={})","leaf":"/*","pattern":"{}","processors":"{2,2}","space":"{2,1}""#,
+            "place 3",
+            15,
+            "allocate 0 unplaced {0,1}",
+        ),
+        (GRID, "/*", "/a", "place 3", 15, "allocate 0 no-leaf"),
+        (
+            GRID,
+            r#""processors":"{2,2}""#,
+            r#""processors":"{4}""#,
+            "place 3",
+            15,
+            "allocate 0 shape",
         ),
     ];
     for (document, old, new, words, status, written) in cases {
@@ -388,7 +536,13 @@ fn calls_end_as_they_must(rt: HostRuntime) -> Result<(), Fail> {
         ("run 1 1", ADD, 1, 0, 1, "words\n"),
         ("print 1", ADD, 1, 0, 1, "words\n"),
         ("Print", ADD, 1, 0, 1, "words\n"),
-        ("check", ADD, 1, 0, 1, "words\n"),
+        ("check", ADD, 1, 0, 2, "read\n"),
+        ("check 1", ADD, 1, 0, 1, "words\n"),
+        ("place", ADD, 1, 0, 1, "words\n"),
+        ("place 0", ADD, 1, 0, 1, "words\n"),
+        ("place 01", ADD, 1, 0, 1, "words\n"),
+        ("place 65", ADD, 1, 0, 1, "words\n"),
+        ("place 1", ADD, 1, 0, 2, "read\n"),
         ("--help", ADD, 1, 0, 1, "words\n"),
     ];
     for (words, document, failing_read, failing_write, status, written) in cases {

@@ -7,8 +7,8 @@ use Rattle.aol_cli.specs.Answer.{TreeAnswers, TextAnswers, no_json, tree}
 use Rattle.aol_cli.proofs.answer.text_reply.Goals as goal
 use Rattle.aol_cli.proofs.Replies.{made_of, carried}
 
-pub tree_reply-requires : goal.tree_reply-requires
-tree_reply-requires c = read_tree c.args.bytes.now (view c.in-Ok.tree) c.in-Ok.ensures.ok.1
+pub tree_reply-requires-clause-tree : goal.tree_reply-requires-clause-tree
+tree_reply-requires-clause-tree c = read_tree c.args.bytes.now (view c.in-Ok.tree) c.in-Ok.ensures.ok.1
 
 pub returns-in-Ok : goal.returns-in-Ok
 returns-in-Ok c =

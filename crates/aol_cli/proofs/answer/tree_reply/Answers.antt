@@ -6,7 +6,7 @@ use Rattle.aol_cli.proofs.answer.tree_reply.Goals as goal
 use Rattle.aol_cli.proofs.Replies.{carried, wrong_form-told, text_limit-told}
 
 pub document_reply-requires-clause-readable : goal.document_reply-requires-clause-readable
-document_reply-requires-clause-readable c = c.in-Ok.ensures.readable c.requires
+document_reply-requires-clause-readable c = c.in-Ok.ensures.readable c.requires.tree
 
 pub returns-in-Ok : goal.returns-in-Ok
 returns-in-Ok c =

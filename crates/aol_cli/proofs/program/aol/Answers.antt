@@ -37,3 +37,6 @@ pub returns : goal.returns
 returns g c =
     let command = c.in-Some.command in
     no_memory command c.in-Some.ensures.command (within command (about_document command) _ _ (c.in-Ok.bytes, c.in-Ok.ensures.all.0, c.in-Ok.ensures.all.1.0)) (search rules) (search rules)
+
+pub text_reply-requires : goal.text_reply-requires
+text_reply-requires g c = (_, c.in-Some.ensures.command)

@@ -13,3 +13,9 @@ pub mod Limits
 pub mod Room
 pub mod BlockMade
 pub mod Sample
+pub mod Factors
+pub mod EqualParts
+pub mod UnblockedNumbers
+pub mod ComesFrom
+pub mod NodeFrom
+pub mod Below

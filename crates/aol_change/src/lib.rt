@@ -17,6 +17,7 @@ mod names;
 mod refused;
 mod remap;
 mod tasks;
+mod unblocked;
 
 pub use blocks::block_task;
 pub use laid::laid_out;
@@ -25,3 +26,4 @@ pub use names::new_name;
 pub use refused::StepRefused;
 pub use remap::Remap;
 pub use tasks::{Side, has_port, input_shape, output_shape, port_shape, push_copies, task_named};
+pub use unblocked::old_numbers;

@@ -1,5 +1,5 @@
 -- The text of an instance.
-use Rattle.std.proofs.Common.{◌≡◌, ℕ, zero, suc, ◌+◌, ◌*◌, ◌/◌, ◌%◌, ◌<◌, ◌≤◌, List, [], ◌∷◌, ◌++◌, sym, ◌∙◌, ap, arith, length, true, false, ◌==◌, append_assoc, take, slice_get, Some, ◌-◌, nat_lt}
+use Rattle.std.proofs.Common.{◌≡◌, ℕ, zero, suc, ◌+◌, ◌*◌, ◌/◌, ◌%◌, ◌<◌, ◌≤◌, List, [], ◌∷◌, ◌++◌, subst, sym, ◌∙◌, ap, arith, length, true, false, ◌==◌, append_assoc, take, slice_get, Some, ◌-◌, nat_lt}
 use Rattle.std.specs.List.{join_with_byte}
 use Rattle.std.specs.Fmt.{decimal}
 use Rattle.std.proofs.lemmas.Bool.{lt-ltb, le-ltb}
@@ -15,16 +15,16 @@ use Rattle.aol_flat.specs.Leaves.{instances_of, IsLeafRow}
 use Rattle.aol_cli.specs.Instance.{text_among, instance_text, IsInLeaf}
 
 -- where there is a point, the points of a space are so many of the inner one
-pub below_is : (n : ℕ) (inner : List ℕ) (points rank : ℕ) → points ≡ n * size inner → rank < points → points / n ≡ size inner
-below_is zero inner points rank is within = omega (arith, is, within)
-below_is (suc n) inner points rank is within =
-    let some : 0 < suc n = omega arith in
-    ap (λ p. p / suc n) is ∙ mul-div_cancel_left (size inner) some
+below_is : (n : ℕ) (inner : List ℕ) (points : ℕ) → points ≡ n * size inner → 1 ≤ points → points / n ≡ size inner
+below_is zero inner points is some = omega (arith, is, some)
+below_is (suc n) inner points is some =
+    let more : 0 < suc n = omega arith in
+    ap (λ p. p / suc n) is ∙ mul-div_cancel_left (size inner) more
 
 -- the first index of a point, and the others
-pub point_parts : (space inner : List ℕ) (n points rank below : ℕ) → space ≡ n ∷ inner → points ≡ size space → rank < points → below ≡ points / n → point_at space rank ≡ (rank / below) ∷ point_at inner (rank % below)
-point_parts space inner n points rank below parts is within made =
-    let same : size inner ≡ below = sym (below_is n inner points rank (is ∙ ap size parts) within) ∙ sym made in
+point_parts : (space inner : List ℕ) (n points rank below : ℕ) → space ≡ n ∷ inner → points ≡ size space → 1 ≤ points → below ≡ points / n → point_at space rank ≡ (rank / below) ∷ point_at inner (rank % below)
+point_parts space inner n points rank below parts is some made =
+    let same : size inner ≡ below = sym (below_is n inner points (is ∙ ap size parts) some) ∙ sym made in
     ap (λ s. point_at s rank) parts ∙ ap (λ b. (rank / b) ∷ point_at inner (rank % b)) same
 
 -- a list with an element isn't empty
@@ -32,18 +32,18 @@ not_empty : (k : ℕ) → true ≡ (suc k == 0) → ⊥
 not_empty k h = let e : (suc k == 0) ≡ false = grind (arith, nat_tests) in cc
 
 -- the text of the last index
-pub last_index : (space inner : List ℕ) (n points rank below : ℕ) → space ≡ n ∷ inner → points ≡ size space → rank < points → below ≡ points / n → true ≡ (length inner == 0)
+pub last_index : (space inner : List ℕ) (n points rank below : ℕ) → space ≡ n ∷ inner → points ≡ size space → 1 ≤ points → below ≡ points / n → true ≡ (length inner == 0)
     → decimal (rank / below) ≡ join_with_byte 44 (map decimal (point_at space rank))
-last_index space [] n points rank below parts is within made empty = ap (λ p. join_with_byte 44 (map decimal p)) (sym (point_parts space [] n points rank below parts is within made))
-last_index space (x ∷ xs) n points rank below parts is within made empty = absurd (not_empty (length xs) empty)
+last_index space [] n points rank below parts is some made empty = ap (λ p. join_with_byte 44 (map decimal p)) (sym (point_parts space [] n points rank below parts is some made))
+last_index space (x ∷ xs) n points rank below parts is some made empty = absurd (not_empty (length xs) empty)
 
 -- the text of one index and then others
-pub more_indices : (space inner : List ℕ) (n points rank below : ℕ) → space ≡ n ∷ inner → points ≡ size space → rank < points → below ≡ points / n → false ≡ (length inner == 0)
+pub more_indices : (space inner : List ℕ) (n points rank below : ℕ) → space ≡ n ∷ inner → points ≡ size space → 1 ≤ points → below ≡ points / n → false ≡ (length inner == 0)
     → (decimal (rank / below) ++ 44 ∷ []) ++ join_with_byte 44 (map decimal (point_at inner (rank % below))) ≡ join_with_byte 44 (map decimal (point_at space rank))
-more_indices space [] n points rank below parts is within made some = cc
-more_indices space (x ∷ xs) n points rank below parts is within made some =
+more_indices space [] n points rank below parts is some made more = cc
+more_indices space (x ∷ xs) n points rank below parts is some made more =
     append_assoc (decimal (rank / below)) (44 ∷ []) (join_with_byte 44 (map decimal (point_at (x ∷ xs) (rank % below))))
-    ∙ ap (λ p. join_with_byte 44 (map decimal p)) (sym (point_parts space (x ∷ xs) n points rank below parts is within made))
+    ∙ ap (λ p. join_with_byte 44 (map decimal p)) (sym (point_parts space (x ∷ xs) n points rank below parts is some made))
 
 -- a number, a comma and others, one after another
 pub after_index : (text one two three number others : List ℕ) → one ≡ text ++ number → two ≡ one ++ 44 ∷ [] → three ≡ two ++ others → three ≡ text ++ ((number ++ 44 ∷ []) ++ others)

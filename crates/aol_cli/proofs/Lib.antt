@@ -1,7 +1,3 @@
-pub mod Commands
-pub mod Computed
-pub mod SiteFacts
-pub mod RunReplies
 pub mod Checked
 pub mod Replies
 pub mod LineWords
@@ -9,7 +5,13 @@ pub mod OneFound
 pub mod OneReply
 pub mod OneRefusal
 pub mod Tested
+pub mod Acceptance
+pub mod Refusals
+pub mod RunReplies
+pub mod Finishing
 pub mod Instances
 pub mod Placements
 pub mod Readers
 pub mod LeafTasks
+pub mod Commands
+pub mod ExecTold

@@ -1,6 +1,7 @@
 -- The same bytes have one reply.
 use Rattle.std.proofs.Common.{◌≡◌, ℕ, List, [], ◌∷◌, length, codes, decimal, Bool, true, false, not, cond, ◌&&◌, Some, None, option_map, Result, refl, sym, ◌∙◌, ap, subst}
 use Rattle.std.specs.List.{find, list_all}
+use Rattle.serde_json.specs.Data.{Data}
 use Rattle.aol_model_types.specs.declared.document.Document.{Document}
 use Rattle.aol_model_types.specs.declared.document.Misfit.{Misfit}
 use Rattle.aol_model_types.specs.declared.document.Model.{Model}
@@ -13,15 +14,18 @@ use Rattle.aol_flat.specs.Instance.{instances}
 use Rattle.aol_flat.specs.InstanceNeed.{level_count}
 use Rattle.aol_allocate.specs.declared.cause.PlaceCause.{PlaceCause}
 use Rattle.aol_cli.specs.declared.words.Command.{Command}
-use Rattle.aol_cli.specs.declared.words.Command.TheVariants.{Check, Print, Run, Place}
+use Rattle.aol_cli.specs.declared.words.Command.TheVariants.{Check, Print, Run, Place, Exec}
 use Rattle.aol_cli.specs.declared.status.StatusKind.TheVariants.{Done, Shape, Input, Allocate}
-use Rattle.aol_cli.specs.AcceptedAnswer.{AcceptedAnswers, RunAnswers, unbuilt, wrong_input, run, PlaceAnswers, steps, unplaced, placed, IsCheckReply}
-use Rattle.aol_cli.specs.Answer.{DocumentAnswers, misfit, refused, accepted, TreeAnswers, wrong_form, text_limit, document, TextAnswers, no_json, tree, Answers, by_document}
+use Rattle.aol_cli.specs.AcceptedAnswer.{AcceptedAnswers, IsPlaceable, IsUnplaced, steps, by_entry, RunAnswers, wrong_input, not_placed, run, PlaceAnswers, unplaced, placed, IsCheckReply}
+use Rattle.aol_cli.specs.Answer.{DocumentAnswers, misfit, refused, accepted, TreeAnswers, wrong_form, text_limit, document, JsonAnswers, no_json, tree, Answers, by_document, by_job}
 use Rattle.aol_cli.specs.Checked.{accepted_line, cause_words}
 use Rattle.aol_cli.specs.Inputs.{Unfit}
 use Rattle.aol_cli.specs.Reply.{ReplyOf, reply, refusal}
 use Rattle.aol_cli.specs.Run.{IsRunReply}
+use Rattle.aol_cli.specs.ExecAnswer.{exec_reply, IsExecReply}
 use Rattle.aol_cli.specs.Words.{IsDetermined}
+use Rattle.aol_exec.proofs.OneJob.{one_answer}
+use Rattle.aol_cli.proofs.Commands.{not_two}
 use Rattle.aol_cli.proofs.OneFound.{one_found, not_both}
 use Rattle.aol_cli.proofs.OneRefusal.{one_refusal, accepted_not_refused, levels_agree}
 
@@ -29,29 +33,35 @@ use Rattle.aol_cli.proofs.OneRefusal.{one_refusal, accepted_not_refused, levels_
 run_one : (m : Model) (inputs : List InputArray) (r q : ReplyOf) → IsRunReply m inputs r → IsRunReply m inputs q → r ≡ q
 run_one m inputs r q a b = a.of_every a.exists.0 a.exists.1 ∙ sym (b.of_every a.exists.0 a.exists.1)
 
+-- what isn't placed has one reply
+unplaced_one : (d : Document) (r q : ReplyOf) → IsUnplaced d r → IsUnplaced d q → r ≡ q
+unplaced_one d _ _ (steps h) (steps g) = refl
+unplaced_one d _ _ (steps h) (by_entry is k c w) = absurd (h is)
+unplaced_one d _ _ (by_entry is k c w) (steps g) = absurd (g is)
+unplaced_one d _ _ (by_entry is k c w) (by_entry so j b u) = ap (λ (x : ℕ × PlaceCause). refusal Allocate (decimal x.0 ∷ cause_words x.1)) (one_found _ (k, c) (j, b) w u)
+
+not_unplaced : (d : Document) (r : ReplyOf) → IsPlaceable d → IsUnplaced d r → ⊥
+not_unplaced d _ p (steps h) = h p.no_steps
+not_unplaced d _ p (by_entry is k c w) = not_both _ (k, c) p.no_cause w
+
 -- a run has one reply
 ran_one : (d : Document) (r q : ReplyOf) → RunAnswers d r → RunAnswers d q → r ≡ q
-ran_one d _ _ (unbuilt h) (unbuilt g) = refl
-ran_one d _ _ (unbuilt h) (wrong_input e is name cause w) = absurd (h e is)
-ran_one d _ _ (unbuilt h) (run e is w q a) = absurd (h e is)
-ran_one d _ _ (wrong_input e is name cause w) (unbuilt g) = absurd (g e is)
-ran_one d _ _ (wrong_input e is name cause w) (wrong_input f so other why u) = ap (λ (x : Unfit). refusal Input (x.0 ∷ x.1 ∷ [])) (one_found _ (name, cause) (other, why) w u)
-ran_one d _ _ (wrong_input e is name cause w) (run f so u q a) = absurd (not_both _ (name, cause) u w)
-ran_one d _ _ (run e is w r a) (unbuilt g) = absurd (g e is)
-ran_one d _ _ (run e is w r a) (wrong_input f so name cause u) = absurd (not_both _ (name, cause) w u)
-ran_one d _ _ (run e is w r a) (run f so u q b) = run_one _ _ r q a b
+ran_one d _ _ (wrong_input name cause w) (wrong_input other why u) = ap (λ (x : Unfit). refusal Input (x.0 ∷ x.1 ∷ [])) (one_found _ (name, cause) (other, why) w u)
+ran_one d _ _ (wrong_input name cause w) (not_placed u q b) = absurd (not_both _ (name, cause) u w)
+ran_one d _ _ (wrong_input name cause w) (run u p q b) = absurd (not_both _ (name, cause) u w)
+ran_one d _ _ (not_placed w r a) (wrong_input name cause u) = absurd (not_both _ (name, cause) w u)
+ran_one d _ _ (not_placed w r a) (not_placed u q b) = unplaced_one d r q a b
+ran_one d _ _ (not_placed w r a) (run u p q b) = absurd (not_unplaced d r p a)
+ran_one d _ _ (run w p r a) (wrong_input name cause u) = absurd (not_both _ (name, cause) w u)
+ran_one d _ _ (run w p r a) (not_placed u q b) = absurd (not_unplaced d q p b)
+ran_one d _ _ (run w p r a) (run u o q b) = run_one _ _ r q a b
 
 -- a placement has one reply
 placed_one : (d : Document) (n : ℕ) (r q : ReplyOf) → PlaceAnswers d n r → PlaceAnswers d n q → r ≡ q
-placed_one d n _ _ (steps h) (steps g) = refl
-placed_one d n _ _ (steps h) (unplaced is k c w) = absurd (h is)
-placed_one d n _ _ (steps h) (placed is w) = absurd (h is)
-placed_one d n _ _ (unplaced is k c w) (steps g) = absurd (g is)
-placed_one d n _ _ (unplaced is k c w) (unplaced so j b u) = ap (λ (x : ℕ × PlaceCause). refusal Allocate (decimal x.0 ∷ cause_words x.1)) (one_found _ (k, c) (j, b) w u)
-placed_one d n _ _ (unplaced is k c w) (placed so u) = absurd (not_both _ (k, c) u w)
-placed_one d n _ _ (placed is w) (steps g) = absurd (g is)
-placed_one d n _ _ (placed is w) (unplaced so k c u) = absurd (not_both _ (k, c) w u)
-placed_one d n _ _ (placed is w) (placed so u) = refl
+placed_one d n _ _ (unplaced r a) (unplaced q b) = unplaced_one d r q a b
+placed_one d n _ _ (unplaced r a) (placed p) = absurd (not_unplaced d r p a)
+placed_one d n _ _ (placed p) (unplaced q b) = absurd (not_unplaced d q p b)
+placed_one d n _ _ (placed p) (placed o) = refl
 
 -- a check has one reply
 checked_one : (d : Document) (r q : ReplyOf) → IsCheckReply d r → IsCheckReply d q → r ≡ q
@@ -63,6 +73,7 @@ accepted_one Check d r q a b = checked_one d r q a b
 accepted_one Print d r q a b = a ∙ sym b
 accepted_one (Run n) d r q a b = ran_one d r q a b
 accepted_one (Place n) d r q a b = placed_one d n r q a b
+accepted_one Exec d r q a b = absurd a
 
 -- no check fails where all hold
 none_fails : (xs : List RuleCheck) → list_all (λ c. c.holds) xs ≡ true → find (λ c. not c.holds) xs ≡ None
@@ -75,7 +86,7 @@ none_fails (c ∷ xs) h = step c.holds h (none_fails xs)
     step false g rest = cc
 
 -- a sound model breaks no rule
-no_misfit : (m : Model) (x : Misfit) → IsSound m → first_misfit m ≡ Some x → ⊥
+pub no_misfit : (m : Model) (x : Misfit) → IsSound m → first_misfit m ≡ Some x → ⊥
 no_misfit m x sound h = not_both (first_misfit m) x (ap (option_map (λ (c : RuleCheck). record { place = whole c.steps; rule = c.rule })) (none_fails (checks m) sound.shapes)) h
 
 document_one : (c : Command) (d : Document) (r q : ReplyOf) → DocumentAnswers c d r → DocumentAnswers c d q → r ≡ q
@@ -94,12 +105,19 @@ tree_one c _ _ _ (wrong_form place) (wrong_form _) = refl
 tree_one c _ _ _ (text_limit place passed) (text_limit _ _) = refl
 tree_one c _ _ _ (document d r a) (document _ q b) = document_one c d r q a b
 
-text_one : (bytes : List ℕ) (c : Command) (r q : ReplyOf) → TextAnswers bytes c r → TextAnswers bytes c q → r ≡ q
-text_one bytes c _ _ (no_json h) (no_json g) = refl
-text_one bytes c _ _ (no_json h) (tree u d is q a) = absurd (not_both _ d (h u) is)
-text_one bytes c _ _ (tree u d is r a) (no_json h) = absurd (not_both _ d (h u) is)
-text_one bytes c _ _ (tree u d is r a) (tree v e so q b) = tree_one c (document_in d) r q a (subst (λ x. TreeAnswers c (document_in x) q) (one_found _ e d so is) b)
+json_one : (bytes : List ℕ) (P : Data → ReplyOf → Type 0) → ((d : Data) (r q : ReplyOf) → P d r → P d q → r ≡ q) → (r q : ReplyOf) → JsonAnswers bytes P r → JsonAnswers bytes P q → r ≡ q
+json_one bytes P one _ _ (no_json h) (no_json g) = refl
+json_one bytes P one _ _ (no_json h) (tree u d is q a) = absurd (not_both _ d (h u) is)
+json_one bytes P one _ _ (tree u d is r a) (no_json h) = absurd (not_both _ d (h u) is)
+json_one bytes P one _ _ (tree u d is r a) (tree v e so q b) = one d r q a (subst (λ x. P x q) (one_found _ e d so is) b)
+
+-- a tree has one answer to `exec`
+exec_one : (d : Data) (r q : ReplyOf) → IsExecReply d r → IsExecReply d q → r ≡ q
+exec_one d r q a b = a.told ∙ (ap exec_reply (one_answer d a.answer b.answer a.answers b.answers) ∙ sym b.told)
 
 -- the same bytes have one reply
 pub one_reply : (bytes : List ℕ) (c : Command) → IsDetermined c → (r q : ReplyOf) → Answers bytes c r → Answers bytes c q → r ≡ q
-one_reply bytes c determined _ _ (by_document is r a) (by_document so q b) = text_one bytes c r q a b
+one_reply bytes c determined _ _ (by_document is r a) (by_document so q b) = json_one bytes (λ d. TreeAnswers c (document_in d)) (λ d. tree_one c (document_in d)) r q a b
+one_reply bytes c determined _ _ (by_document is r a) (by_job so q b) = absurd (not_two _ is so)
+one_reply bytes c determined _ _ (by_job is r a) (by_document so q b) = absurd (not_two _ so is)
+one_reply bytes c determined _ _ (by_job is r a) (by_job so q b) = json_one bytes IsExecReply exec_one r q a b

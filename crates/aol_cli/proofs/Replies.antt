@@ -1,19 +1,17 @@
 -- What holds of a reply holds of the program's own that is it.
-use Rattle.std.proofs.Common.{◌≡◌, [], ◌∷◌, Result, Ok, Err, sym, subst}
+use Rattle.std.proofs.Common.{◌≡◌, ℕ, Option, None, Result, Ok, Err, sym, ap, refl, subst}
 use Rattle.std.specs.Prelude.{IfOk}
 use Rattle.aol_shape.specs.declared.memory.NoMemory.{NoMemory}
-use Rattle.aol_shape.specs.declared.limit.LimitName.{LimitName}
 use Rattle.aol_model_types.specs.declared.document.Document.{Document}
-use Rattle.aol_model_types.specs.declared.document.Model.{Model}
-use Rattle.aol_model_types.specs.declared.job.Job.{Job}
-use Rattle.aol_model_types.specs.Places.{PlaceOf, place_text, limit_text}
-use Rattle.aol_model_types.specs.Reading.{Fault, grammar, limit}
+use Rattle.aol_cli.specs.declared.reply.Answer.{Answer}
 use Rattle.aol_cli.specs.declared.reply.Reply.{Reply}
-use Rattle.aol_cli.specs.declared.status.StatusKind.TheVariants.{Grammar, Limit}
+use Rattle.aol_cli.specs.declared.status.Ran.{Ran}
 use Rattle.aol_cli.specs.declared.words.Command.{Command}
-use Rattle.aol_cli.specs.AcceptedAnswer.{AcceptedAnswers}
-use Rattle.aol_cli.specs.Answer.{DocumentAnswers, TreeAnswers, wrong_form, text_limit}
-use Rattle.aol_cli.specs.Reply.{ReplyOf, refusal, reply_of}
+use Rattle.aol_cli.specs.declared.words.Command.TheVariants.{Check, Print, Run, Place, Exec}
+use Rattle.aol_cli.specs.Finished.{IsAlone}
+use Rattle.aol_cli.specs.Ran.{IsRunCode, HasRan}
+use Rattle.aol_cli.specs.Reply.{ReplyOf, reply_of}
+use Rattle.aol_cli.specs.Status.{code_of}
 
 -- by an equation with the reply
 pub made_of : (P : ReplyOf → Type 0) (r : Result Reply NoMemory) (q : ReplyOf) → IfOk r (λ x. reply_of x ≡ q) → P q → IfOk r (λ x. P (reply_of x))
@@ -25,23 +23,49 @@ pub carried : (P Q : ReplyOf → Type 0) (r : Result Reply NoMemory) → ((x : R
 carried P Q (Ok x) step p = step (reply_of x) p
 carried P Q (Err x) step p = p
 
--- a place that isn't of the grammar is told
-pub wrong_form-told : (c : Command) (read : Result Document Fault) (r : Result Reply NoMemory) (place : PlaceOf) → IfOk r (λ x. reply_of x ≡ refusal Grammar (place_text place ∷ [])) → read ≡ Err (grammar place)
-    → IfOk r (λ x. TreeAnswers c read (reply_of x))
-wrong_form-told c read r place says is = made_of (TreeAnswers c read) r _ says (subst (λ d. TreeAnswers c d (refusal Grammar (place_text place ∷ []))) (sym is) (wrong_form place))
+-- ---- answers
 
--- a limit that a text passes is told
-pub text_limit-told : (c : Command) (read : Result Document Fault) (r : Result Reply NoMemory) (place : PlaceOf) (l : LimitName) → IfOk r (λ x. reply_of x ≡ refusal Limit (place_text place ∷ limit_text l ∷ []))
-    → read ≡ Err (limit place l) → IfOk r (λ x. TreeAnswers c read (reply_of x))
-text_limit-told c read r place l says is = made_of (TreeAnswers c read) r _ says (subst (λ d. TreeAnswers c d (refusal Limit (place_text place ∷ limit_text l ∷ []))) (sym is) (text_limit place l))
+-- what follows for every answer
+pub carried_answer : (P Q : Answer → Type 0) (r : Result Answer NoMemory) → ((x : Answer) → P x → Q x) → IfOk r P → IfOk r Q
+carried_answer P Q (Ok x) step p = step x p
+carried_answer P Q (Err x) step p = p
 
--- an answer by the command and the model as they are lent
-pub answered : (c k : Command) (m n : Model) (j : Job) (r : Result Reply NoMemory) → c ≡ k → n ≡ m → IfOk r (λ x. AcceptedAnswers k (record { model = n; job = j }) (reply_of x))
-    → IfOk r (λ x. AcceptedAnswers c (record { model = m; job = j }) (reply_of x))
-answered c k m n j r is same h =
-    subst (λ b. IfOk r (λ x. AcceptedAnswers b (record { model = m; job = j }) (reply_of x))) (sym is) (subst (λ a. IfOk r (λ x. AcceptedAnswers k (record { model = a; job = j }) (reply_of x))) same h)
+-- the answer of a command that runs nothing
+pub alone_reply : (P : ReplyOf → Type 0) (r : Result Reply NoMemory) (a : Result Answer NoMemory) → IsAlone r a → IfOk r (λ x. P (reply_of x)) → IfOk a (λ x. P (reply_of x.reply))
+alone_reply P (Ok r) (Ok a) h p = subst (λ (x : Reply). P (reply_of x)) h.0 p
+alone_reply P (Ok r) (Err e) h p = absurd h
+alone_reply P (Err e) (Ok a) h p = absurd h
+alone_reply P (Err e) (Err f) h p = p
 
--- the same where nothing is known yet of the model
-pub same_model : (c : Command) (m n : Model) (j : Job) (r : Result Reply NoMemory) → n ≡ m → IfOk r (λ x. DocumentAnswers c (record { model = n; job = j }) (reply_of x))
-    → IfOk r (λ x. DocumentAnswers c (record { model = m; job = j }) (reply_of x))
-same_model c m n j r same h = subst (λ a. IfOk r (λ x. DocumentAnswers c (record { model = a; job = j }) (reply_of x))) same h
+-- nothing ran
+pub alone_ran : (P : ReplyOf → Type 0) (Q : ℕ → Option Ran → Type 0) (r : Result Reply NoMemory) (a : Result Answer NoMemory) → IsAlone r a → IfOk r (λ x. P (reply_of x))
+    → ((x : ReplyOf) → P x → Q (code_of x.status) None) → IfOk a (λ x. Q (code_of x.reply.status) x.ran)
+alone_ran P Q (Ok r) (Ok a) h p step = subst (Q (code_of a.reply.status)) (sym h.1) (subst (λ (x : Reply). Q (code_of x.status) None) h.0 (step (reply_of r) p))
+alone_ran P Q (Ok r) (Err e) h p step = absurd h
+alone_ran P Q (Err e) (Ok a) h p step = absurd h
+alone_ran P Q (Err e) (Err f) h p step = p
+
+-- a code that isn't that of a run's end has nothing that ran
+pub none_ran : (c : Command) (P : Document → Type 0) (code : ℕ) → ¬ IsRunCode code → HasRan c P code None
+none_ran Check P code h = refl
+none_ran Print P code h = refl
+none_ran (Run n) P code h = h
+none_ran (Place n) P code h = refl
+none_ran Exec P code h = refl
+
+-- a known command after which nothing ran
+pub none_known : (c k : Command) (P : Document → Type 0) → c ≡ k → ((code : ℕ) → HasRan k P code None) → (code : ℕ) → HasRan c P code None
+none_known c k P is none code = subst (λ (d : Command). HasRan d P code None) (sym is) (none code)
+
+-- so has a command that runs nothing
+pub alone_none : (c : Command) (P : Document → Type 0) (r : Result Reply NoMemory) (a : Result Answer NoMemory) → IsAlone r a → ((code : ℕ) → HasRan c P code None) → IfOk a (λ x. HasRan c P (code_of x.reply.status) x.ran)
+alone_none c P (Ok r) (Ok a) h none = subst (HasRan c P (code_of a.reply.status)) (sym h.1) (none (code_of a.reply.status))
+alone_none c P (Ok r) (Err e) h none = absurd h
+alone_none c P (Err e) (Ok a) h none = absurd h
+alone_none c P (Err e) (Err f) h none = h
+
+-- ---- by the command
+
+-- what is answered to a command that is this one
+pub by_command : (c k : Command) (P : Command → Answer → Type 0) (a : Result Answer NoMemory) → c ≡ k → IfOk a (P k) → IfOk a (P c)
+by_command c k P a is h = subst (λ x. IfOk a (P x)) (sym is) h

@@ -1,5 +1,5 @@
 -- From what the tests of a model that is laid out tell to what is answered for it.
-use Rattle.std.proofs.Common.{◌≡◌, ℕ, ◌<◌, List, [], ◌∷◌, length, Option, codes, refl, sym, subst}
+use Rattle.std.proofs.Common.{◌≡◌, ℕ, ◌<◌, List, [], ◌∷◌, length, Option, codes, sym, subst}
 use Rattle.std.proofs.lemmas.Option.{slice_get_within}
 use Rattle.aol_vsl.specs.Text.{shape_text}
 use Rattle.aol_model_types.specs.declared.document.Model.{Model}
@@ -20,10 +20,8 @@ use Rattle.aol_flat_laws.proofs.AcyclicLevels.{acyclic_is_levelled}
 use Rattle.aol_flat_laws.proofs.LevelsBridge.{levels_are_of_model, loops_are_cycles}
 use Rattle.aol_assign.specs.Answers.{TwiceIs, UnwrittenIs}
 use Rattle.aol_depend.specs.Gather.{AreEntries}
-use Rattle.aol_depend.specs.declared.refused.DependRefused.{DependRefused}
-use Rattle.aol_depend.specs.declared.refused.DependRefused.TheVariants as depends
 use Rattle.aol_cli.specs.declared.status.StatusKind.TheVariants as statuses
-use Rattle.aol_cli.specs.ModelAnswer.{IsCycleTold, ModelRefused, limited, written_twice, unwritten}
+use Rattle.aol_cli.specs.ModelAnswer.{ModelRefused, limited, written_twice, unwritten}
 use Rattle.aol_cli.specs.Refused.{IsReadBy, reading_words, target_text, writer_words}
 use Rattle.aol_cli.specs.Reply.{refusal}
 
@@ -58,10 +56,6 @@ module _ (f : Laid) (list : List (Option ℕ)) (writers : AreWriters f list) whe
     -- so is the first instance of a loop
     pub cycle_told : (j : ℕ) → ((reads : Reads) × AreReads f reads × IsFirstInLoop reads list j) → IsFirstInCycle f.model j
     cycle_told j h = (loops_are_cycles f h.0 list sound h.1 writers single j).0 h.2
-
-    pub refusal_told : (e : DependRefused) → ((j : ℕ) → e ≡ depends.Cycle j → (reads : Reads) × AreReads f reads × IsFirstInLoop reads list j) → IsCycleTold f.model e
-    refusal_told (depends.Cycle j) h = cycle_told j (h j refl)
-    refusal_told depends.NoMemory h = tt
 
 -- an instance of a cycle is one of the model
 pub cycle_within : (m : Model) (j : ℕ) → IsFirstInCycle m j → j < length (instances m)

@@ -12,6 +12,7 @@ use Rattle.aol_flat.specs.Accept.{IsSound, IsAccepted}
 use Rattle.aol_cli.specs.declared.status.StatusKind.TheVariants.{Json, Grammar, Shape, Limit}
 use Rattle.aol_cli.specs.declared.words.Command.{Command}
 use Rattle.aol_cli.specs.AcceptedAnswer.{AcceptedAnswers}
+use Rattle.aol_cli.specs.ExecAnswer.{IsExecReply}
 use Rattle.aol_cli.specs.ModelAnswer.{ModelRefused}
 use Rattle.aol_cli.specs.Words.{subject_of}
 use Rattle.aol_cli.specs.Words as subjects
@@ -29,11 +30,16 @@ pub data TreeAnswers (c : Command) : Result Document Fault → ReplyOf → Type 
   text_limit : (place : PlaceOf) (name : LimitName) → TreeAnswers c (Err (limit place name)) (refusal Limit (place_text place ∷ limit_text name ∷ []))
   document : (d : Document) (r : ReplyOf) → DocumentAnswers c d r → TreeAnswers c (Ok d) r
 
+-- to bytes: they are no JSON, or what holds of the reply to the tree
+pub data JsonAnswers (bytes : List ℕ) (P : Data → ReplyOf → Type 0) : ReplyOf → Type 0 where
+  no_json : (IsUtf8 bytes → read_text bytes ≡ None) → JsonAnswers bytes P (refusal Json [])
+  tree : IsUtf8 bytes → (d : Data) → read_text bytes ≡ Some d → (r : ReplyOf) → P d r → JsonAnswers bytes P r
+
 -- to bytes that are to be a document
-pub data TextAnswers (bytes : List ℕ) (c : Command) : ReplyOf → Type 0 where
-  no_json : (IsUtf8 bytes → read_text bytes ≡ None) → TextAnswers bytes c (refusal Json [])
-  tree : IsUtf8 bytes → (d : Data) → read_text bytes ≡ Some d → (r : ReplyOf) → TreeAnswers c (document_in d) r → TextAnswers bytes c r
+abbrev pub TextAnswers : List ℕ → Command → ReplyOf → Type 0
+TextAnswers bytes c = JsonAnswers bytes (λ d. TreeAnswers c (document_in d))
 
 -- to the bytes that a command is given, by what they are to be
 pub data Answers (bytes : List ℕ) (c : Command) : ReplyOf → Type 0 where
   by_document : subject_of c ≡ Some subjects.document → (r : ReplyOf) → TextAnswers bytes c r → Answers bytes c r
+  by_job : subject_of c ≡ Some subjects.job → (r : ReplyOf) → JsonAnswers bytes IsExecReply r → Answers bytes c r

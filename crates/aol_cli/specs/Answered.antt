@@ -5,11 +5,14 @@ use Rattle.aol_io.specs.Causes.{Rose}
 use Rattle.aol_io.specs.Streams.{WasAll, WasLong, TookAtMost}
 use Rattle.aol_cli.specs.declared.program.TheConstants.{MAX_BYTES}
 use Rattle.aol_cli.specs.declared.status.StatusKind.TheVariants.{Words, Read, Memory, Long}
+use Rattle.aol_cli.specs.declared.status.Ran.{Ran}
 use Rattle.aol_cli.specs.declared.words.Command.{Command}
 use Rattle.aol_cli.specs.Status.{code_of}
 use Rattle.aol_cli.specs.Words.{Subject, subject_of, ReadsSource, Means, IsNoCommand}
 use Rattle.aol_cli.specs.Reply.{ReplyOf, refusal, SinkEnds, Wrote}
+use Rattle.aol_cli.specs.Accept.{IsDocumentIn}
 use Rattle.aol_cli.specs.Answer.{Answers}
+use Rattle.aol_cli.specs.Ran.{HasRan}
 
 -- the source before and after a call: what is left, where it tells it, and its count of faults
 pub record SourceEnds : Type 0 where
@@ -28,10 +31,10 @@ abbrev pub IsWithin : Option Subject → Type 0 → SourceEnds → Type 0
 IsWithin (Some subject) untouched s = TookAtMost s.before s.after MAX_BYTES
 IsWithin None untouched s = untouched
 
--- one of five: the words are no command and nothing is read; the source failed; too many bytes came; the command is answered for the bytes that it is given; or memory was wanting and nothing was written
-pub data IsAnswered (words : List (List ℕ)) (untouched : Type 0) (s : SourceEnds) (k : SinkEnds) (code : ℕ) : Type 0 where
-  no_command : IsNoCommand words → untouched → Wrote k (refusal Words []) code → IsAnswered words untouched s k code
-  read_fault : (c : Command) → Means words c → ReadsSource c → IsWithin (subject_of c) untouched s → Rose s.faults_before s.faults_after → Wrote k (refusal Read []) code → IsAnswered words untouched s k code
-  too_long : (c : Command) → Means words c → ReadsSource c → WasLong s.before s.after MAX_BYTES → Wrote k (refusal Long []) code → IsAnswered words untouched s k code
-  answered : (c : Command) → Means words c → (bytes : List ℕ) → IsGiven (subject_of c) untouched s bytes → (r : ReplyOf) → Answers bytes c r → Wrote k r code → IsAnswered words untouched s k code
-  no_memory : (c : Command) → Means words c → IsWithin (subject_of c) untouched s → code ≡ code_of Memory → Keeps k.before k.after → IsAnswered words untouched s k code
+-- one of five: the words are no command and nothing is read; the source failed; too many bytes came; the command is answered for the bytes that it is given; or memory was wanting and nothing was written. What ran is handed back where a run came to its end
+pub data IsAnswered (words : List (List ℕ)) (untouched : Type 0) (s : SourceEnds) (k : SinkEnds) (code : ℕ) (ran : Option Ran) : Type 0 where
+  no_command : IsNoCommand words → untouched → Wrote k (refusal Words []) code → ran ≡ None → IsAnswered words untouched s k code ran
+  read_fault : (c : Command) → Means words c → ReadsSource c → IsWithin (subject_of c) untouched s → Rose s.faults_before s.faults_after → Wrote k (refusal Read []) code → ran ≡ None → IsAnswered words untouched s k code ran
+  too_long : (c : Command) → Means words c → ReadsSource c → WasLong s.before s.after MAX_BYTES → Wrote k (refusal Long []) code → ran ≡ None → IsAnswered words untouched s k code ran
+  answered : (c : Command) → Means words c → (bytes : List ℕ) → IsGiven (subject_of c) untouched s bytes → (r : ReplyOf) → Answers bytes c r → Wrote k r code → HasRan c (IsDocumentIn bytes) code ran → IsAnswered words untouched s k code ran
+  no_memory : (c : Command) → Means words c → IsWithin (subject_of c) untouched s → code ≡ code_of Memory → Keeps k.before k.after → ran ≡ None → IsAnswered words untouched s k code ran

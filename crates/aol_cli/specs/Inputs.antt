@@ -1,5 +1,5 @@
 -- Inputs that aren't those of the main task.
-use Rattle.std.specs.Prelude.{ℕ, List, [], ◌∷◌, length, Bool, ◌==◌, Option, Some, None, codes, if◌then◌else◌}
+use Rattle.std.specs.Prelude.{ℕ, List, [], ◌∷◌, map, length, Bool, ◌==◌, Option, Some, None, codes, if◌then◌else◌}
 use Rattle.std.specs.List.{list_any}
 use Rattle.aol_shape.specs.Lists.{same, or_else}
 use Rattle.aol_shape.specs.Shape.{size}
@@ -37,3 +37,7 @@ first_unknown ports (a ∷ inputs) = if is_asked ports a.name then first_unknown
 -- the first of the main inputs, by port, that isn't given; else the first array that is none of them
 abbrev pub first_wrong_input : Model → List InputArray → Option Unfit
 first_wrong_input m inputs = or_else (first_unfit inputs (main_inputs m)) (first_unknown (main_inputs m) inputs)
+
+-- the arrays of these ports, by name
+abbrev pub given_arrays : List InputArray → List Port → List InputArray
+given_arrays inputs ports = map (λ p. record { name = p.name; nums = numbers_named inputs p.name }) ports

@@ -8,7 +8,11 @@ pub mod Lent
 pub mod Run
 pub mod Outputs
 pub mod Placed
-pub mod Fault
+pub mod Accept
+pub mod Ran
+pub mod Refusing
+pub mod Finished
+pub mod ExecAnswer
 pub mod Answer
 pub mod Answered
 pub mod OneReply

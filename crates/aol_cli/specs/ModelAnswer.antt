@@ -8,8 +8,6 @@ use Rattle.aol_flat.specs.Limits.{first_limit, IsBounded}
 use Rattle.aol_flat.specs.Node.{Node, node_path}
 use Rattle.aol_flat.specs.Reads.{Reading, AllGiven, IsFirstUnwritten}
 use Rattle.aol_flat.specs.Targets.{Twice, first_twice, IsSingleAssignment}
-use Rattle.aol_depend.specs.declared.refused.DependRefused.{DependRefused}
-use Rattle.aol_depend.specs.declared.refused.DependRefused.TheVariants as depends
 use Rattle.aol_cli.specs.declared.status.StatusKind.TheVariants as statuses
 use Rattle.aol_cli.specs.Instance.{instance_text}
 use Rattle.aol_cli.specs.Refused.{reading_words, twice_words}
@@ -21,8 +19,3 @@ pub data ModelRefused (m : Model) : ReplyOf → Type 0 where
   written_twice : IsBounded m → (t : Twice) → first_twice m ≡ Some t → ModelRefused m (refusal statuses.Twice (twice_words m t))
   unwritten : IsBounded m → IsSingleAssignment m → (r : Reading) → IsFirstUnwritten m r → ModelRefused m (refusal statuses.Unwritten (reading_words m r.reader r.port r.rank))
   in_cycle : IsBounded m → IsSingleAssignment m → AllGiven m → (j : ℕ) → IsFirstInCycle m j → ModelRefused m (refusal statuses.Cycle (instance_text m j ∷ []))
-
--- a refusal for a cycle tells its first instance
-abbrev pub IsCycleTold : Model → DependRefused → Type 0
-IsCycleTold m (depends.Cycle j) = IsFirstInCycle m j
-IsCycleTold m depends.NoMemory = Unit {0}

@@ -1,7 +1,7 @@
 -- The code and the word of each status.
 use Rattle.std.specs.Prelude.{ℕ, List, [], codes}
 use Rattle.aol_cli.specs.declared.status.StatusKind.{StatusKind}
-use Rattle.aol_cli.specs.declared.status.StatusKind.TheVariants.{Done, Words, Read, Sink, Memory, Long, Json, Grammar, Shape, Limit, Twice, Unwritten, Cycle, Input, Transform, Allocate, Fault, Unbuilt}
+use Rattle.aol_cli.specs.declared.status.StatusKind.TheVariants.{Done, Words, Read, Sink, Memory, Long, Json, Grammar, Shape, Limit, Twice, Unwritten, Cycle, Input, Transform, Allocate, Fault, Unbuilt, Stuck}
 
 -- the number that the program ends with
 abbrev pub code_of : StatusKind → ℕ
@@ -23,6 +23,7 @@ code_of Transform = 14
 code_of Allocate = 15
 code_of Fault = 16
 code_of Unbuilt = 17
+code_of Stuck = 18
 
 -- the first word of its line; the output, a part of a text, and nothing have none
 abbrev pub word_of : StatusKind → List ℕ
@@ -44,3 +45,4 @@ word_of Transform = codes "transform"
 word_of Allocate = codes "allocate"
 word_of Fault = codes "fault"
 word_of Unbuilt = codes "unbuilt"
+word_of Stuck = codes "stuck"

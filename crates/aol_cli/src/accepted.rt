@@ -1,164 +1,207 @@
-//! The reply to a command for a document whose model is accepted.
+//! The reply to a command for a document whose model is accepted, and what ran.
 
-ghost use Rattle.std.specs.Prelude.{◌≡◌, ◌↔◌, ◌≤◌, [], Some, IsTrue, IfOk, IfSome, IfNone};
-ghost use Rattle.aol_shape.specs.Lists.{or_else};
-ghost use Rattle.aol_model_types.specs.declared.task.Task.TheVariants.{Elementary as ElementaryTask};
-ghost use Rattle.aol_model_types.specs.Rules.{task_named};
-ghost use Rattle.aol_flat.specs.InstanceNeed.{AreLevelsOf};
-ghost use Rattle.aol_flat.specs.Limits.{IsBounded};
-ghost use Rattle.aol_cli.specs.AcceptedAnswer.{AcceptedAnswers, IsNoElementary, IsPlain, IsRunnable, IsUnrunnable, RunAnswers, PlaceAnswers};
-ghost use Rattle.aol_cli.specs.Inputs.{first_unfit, first_unknown};
-ghost use Rattle.aol_cli.specs.Lent.{lent_pair};
+ghost use Rattle.std.specs.Prelude.{◌≡◌, Some, None, IfOk};
+ghost use Rattle.aol_flat.specs.Tasks.{main_inputs};
+ghost use Rattle.aol_flat.specs.Inputs.{InputsFit};
+ghost use Rattle.aol_allocate.specs.Placement.{IsPlacement};
+ghost use Rattle.aol_runner.specs.Run.{IsRunField};
+ghost use Rattle.aol_cli.specs.Accept.{AreAccepted, document_with};
+ghost use Rattle.aol_cli.specs.AcceptedAnswer.{AcceptedAnswers, IsCheckReply};
+ghost use Rattle.aol_cli.specs.Finished.{IsFinished};
+ghost use Rattle.aol_cli.specs.Inputs.{first_wrong_input, given_arrays};
+ghost use Rattle.aol_cli.specs.Ran.{HasRan};
 ghost use Rattle.aol_cli.specs.Reply.{reply_of};
-ghost use Rattle.aol_cli.specs.SoundDocument.{IsSoundDocument};
-ghost use Rattle.aol_cli.specs.Words.{ArePlaced, IsAsked};
+ghost use Rattle.aol_cli.specs.Run.{IsRunReply};
+ghost use Rattle.aol_cli.specs.Status.{code_of};
+ghost use Rattle.aol_cli.specs.Words.{IsAsked, IsWorkers, document, subject_of};
 
+use crate::accepting::Accepted;
 use crate::check::accepted_reply;
-use crate::inputs::{first_unfit, first_unknown};
+use crate::inputs::{given_arrays, main_inputs, wrong_input};
 use crate::line::{Word, refusal};
-use crate::place::{entry_reply, place_reply};
+use crate::place::{place_reply, placed_or_refused};
 use crate::print::print_reply;
-use crate::reply::Reply;
-use crate::run::run_reply;
-use crate::status::StatusKind;
+use crate::printed::outputs_reply;
+use crate::reply::{Answer, Reply, alone};
+use crate::status::{Ran, StatusKind};
 use crate::words::Command;
-use aol_allocate::{PlaceRefused, allocate};
-use aol_depend::Levels;
-use aol_expr::Port;
-use aol_flat::Flat;
-use aol_model::{Elementary, InputArray, Job, Model, Task};
-use aol_shape::{NoMemory, is_same};
+use aol_allocate::Placed;
+use aol_expr::Val;
+use aol_level::{Gate, Kept};
+use aol_runner::run;
+use aol_scatter::Field;
+use aol_shape::NoMemory;
 use std::alloc::Global;
+use std::marker::Sync;
+use std::thread::Threads;
 
-/// The reply to a command for an accepted model with these levels.
-pub fn accepted_answer(
+/// What a run leaves: its reply, the placement and the memory.
+#[derive(Drop)]
+struct Finished {
+    reply: Reply,
+    placed: Placed,
+    memory: Field<Kept>,
+}
+
+/// The answer to a command for a document whose model is accepted.
+pub fn accepted_answer<R: Threads + Sync, G: Gate>(
+    rt: &R,
     alloc: Global,
     command: Command,
-    flat: &Flat,
-    job: &Job,
-    levels: &Levels,
-) -> Result<Reply, NoMemory>
+    accepted: Accepted,
+    gate: &G,
+) -> Result<Answer, NoMemory>
     requires asked { IsAsked command }
-    requires kept { IsSoundDocument flat.now.model job.now }
-    requires bounded { IsBounded flat.now.model }
-    requires levels { AreLevelsOf flat.now.model levels.now }
-    ensures { IfOk result (λ r. AcceptedAnswers command (record { model = flat.now.model; job = job.now }) (reply_of r)) }
+    requires about { subject_of command ≡ Some document }
+    requires accepted { AreAccepted accepted }
+    ensures reply { IfOk result (λ a. AcceptedAnswers command (document_with accepted.flat accepted.job) (reply_of a.reply)) }
+    ensures ran { IfOk result (λ a. HasRan command (λ d. d ≡ document_with accepted.flat accepted.job) (code_of a.reply.status) a.ran) }
 {
     match command {
-        Command::Check => accepted_reply(alloc, flat.instances(), levels.count()),
-        Command::Print => print_reply(alloc, flat.model(), job),
-        Command::Run(_) => run_answer(alloc, flat.model(), job),
-        Command::Place(workers) => place_answer(alloc, flat, job, workers),
+        Command::Exec => unreachable!(),
+        Command::Check => alone(check_reply(alloc, &accepted)),
+        Command::Print => alone(print_reply(alloc, accepted.flat.model(), &accepted.job)),
+        Command::Run(workers) => run_answer(rt, alloc, accepted, workers, gate),
+        Command::Place(workers) => alone(place_reply(
+            alloc,
+            &accepted.flat,
+            &accepted.job,
+            workers,
+        )),
     }
 }
 
-/// The reply to a run.
-fn run_answer(alloc: Global, model: &Model, job: &Job) -> Result<Reply, NoMemory>
-    requires { IsSoundDocument model.now job.now }
-    ensures { IfOk result (λ r. RunAnswers (record { model = model.now; job = job.now }) (reply_of r)) }
+/// How many instances and levels there are.
+fn check_reply(alloc: Global, accepted: &Accepted) -> Result<Reply, NoMemory>
+    requires { AreAccepted accepted.now }
+    ensures { IfOk result (λ r. IsCheckReply (document_with accepted.now.flat accepted.now.job) (reply_of r)) }
 {
-    match task_to_run(model, job) {
-        Some(task) => task_answer(alloc, model, job, task),
-        None => refusal(alloc, StatusKind::Unbuilt, &[]),
-    }
+    accepted_reply(alloc, accepted.flat.instances(), accepted.levels.count())
 }
 
-/// Whether there are no steps and no entries.
-fn is_plain(job: &Job) -> bool
-    ensures { IsTrue result ↔ IsPlain job.now }
-{
-    job.transform.is_empty() && job.allocate.is_empty()
-}
-
-/// The main task, where a run of the document is built.
-fn task_to_run<'a>(model: &'a Model, job: &Job) -> Option<&'a Elementary>
-    ensures built { IfSome result (λ e. IsRunnable (record { model = model.now; job = job.now }) e.now) }
-    ensures unbuilt { IfNone result (IsUnrunnable (record { model = model.now; job = job.now })) }
-{
-    if !is_plain(job) {
-        return None;
-    }
-    main_elementary(model.tasks.as_slice(), model.main.as_str())
-}
-
-/// The first task with this name, where it is elementary.
-fn main_elementary<'a>(tasks: &'a [Task], name: &str) -> Option<&'a Elementary>
-    ensures there { IfSome result (λ e. task_named tasks.now name.now ≡ Some (ElementaryTask e.now)) }
-    ensures not { IfNone result (IsNoElementary (task_named tasks.now name.now)) }
-{
-    for task in tasks {
-        match task {
-            Task::Elementary(elementary) => {
-                if is_same(elementary.name.as_str(), name) {
-                    return Some(elementary);
-                }
-            }
-            Task::Compound(compound) => {
-                if is_same(compound.name.as_str(), name) {
-                    return None;
-                }
-            }
-            Task::Repeated(repeated) => {
-                if is_same(repeated.name.as_str(), name) {
-                    return None;
-                }
-            }
-        }
-    }
-    None
-}
-
-/// The reply to a run of the main task.
-fn task_answer(
+/// The answer to a run.
+fn run_answer<R: Threads + Sync, G: Gate>(
+    rt: &R,
     alloc: Global,
-    model: &Model,
-    job: &Job,
-    task: &Elementary,
-) -> Result<Reply, NoMemory>
-    requires kept { IsSoundDocument model.now job.now }
-    requires built { IsRunnable (record { model = model.now; job = job.now }) task.now }
-    ensures { IfOk result (λ r. RunAnswers (record { model = model.now; job = job.now }) (reply_of r)) }
+    accepted: Accepted,
+    workers: u32,
+    gate: &G,
+) -> Result<Answer, NoMemory>
+    requires accepted { AreAccepted accepted }
+    requires workers { IsWorkers workers }
+    ensures reply { IfOk result (λ a. AcceptedAnswers (Command.Run workers) (document_with accepted.flat accepted.job) (reply_of a.reply)) }
+    ensures ran { IfOk result (λ a. HasRan (Command.Run workers) (λ d. d ≡ document_with accepted.flat accepted.job) (code_of a.reply.status) a.ran) }
 {
-    let inputs = job.input.as_slice();
-    match wrong_input(inputs, task.ins.as_slice()) {
+    let outcome = finish(rt, alloc, &accepted, workers, gate)?;
+    match outcome {
+        Ok(finish) => Ok(with_memory(accepted, finish)),
+        Err(reply) => Ok(Answer { reply, ran: None }),
+    }
+}
+
+/// The answer of a run that came to its end.
+fn with_memory(accepted: Accepted, finish: Finished) -> Answer
+    ensures reply { result.reply ≡ finish.reply }
+    ensures ran { result.ran ≡ Some (record { flat = accepted.flat; placed = finish.placed; memory = finish.memory }) }
+{
+    let Accepted { flat, .. } = accepted;
+    let Finished {
+        reply,
+        placed,
+        memory,
+    } = finish;
+    Answer {
+        reply,
+        ran: Some(Ran {
+            flat,
+            placed,
+            memory,
+        }),
+    }
+}
+
+/// What a run leaves; or the refusal of an input, of the steps or of an entry.
+fn finish<R: Threads + Sync, G: Gate>(
+    rt: &R,
+    alloc: Global,
+    accepted: &Accepted,
+    workers: u32,
+    gate: &G,
+) -> Result<Result<Finished, Reply>, NoMemory>
+    requires accepted { AreAccepted accepted.now }
+    requires workers { IsWorkers workers }
+    ensures { IfOk result (IsFinished accepted.now workers) }
+{
+    match wrong_input(accepted.flat.model(), accepted.job.input.as_slice()) {
         Some((name, cause)) => {
             let words = [Word::Text(name), Word::Text(cause)];
-            refusal(alloc, StatusKind::Input, &words)
+            let reply = refusal(alloc, StatusKind::Input, &words)?;
+            Ok(Err(reply))
         }
-        None => run_reply(alloc, model, task, inputs),
+        None => finish_fitting(rt, alloc, accepted, workers, gate),
     }
 }
 
-/// The first wrong input, and what is wrong with it.
-fn wrong_input<'a>(inputs: &'a [InputArray], ports: &'a [Port]) -> Option<(&'a str, &'static str)>
-    ensures { or_else (first_unfit inputs.now ports.now) (first_unknown ports.now inputs.now) ≡ lent_pair result }
+/// The same where no input is wrong.
+fn finish_fitting<R: Threads + Sync, G: Gate>(
+    rt: &R,
+    alloc: Global,
+    accepted: &Accepted,
+    workers: u32,
+    gate: &G,
+) -> Result<Result<Finished, Reply>, NoMemory>
+    requires accepted { AreAccepted accepted.now }
+    requires workers { IsWorkers workers }
+    requires right { first_wrong_input accepted.now.flat.model accepted.now.job.input ≡ None }
+    ensures { IfOk result (IsFinished accepted.now workers) }
 {
-    match first_unfit(inputs, ports) {
-        Some(wrong) => Some(wrong),
-        None => first_unknown(ports, inputs),
+    let _model = accepted.flat.model();
+    let outcome = placed_or_refused(alloc, &accepted.flat, &accepted.job, workers)?;
+    match outcome {
+        Ok(placed) => {
+            let (reply, memory) = run_placed(rt, alloc, accepted, &placed, gate)?;
+            Ok(Ok(Finished {
+                reply,
+                placed,
+                memory,
+            }))
+        }
+        Err(reply) => Ok(Err(reply)),
     }
 }
 
-/// Whether there are no steps.
-fn has_no_steps(job: &Job) -> bool
-    ensures { IsTrue result ↔ (job.now.transform ≡ []) }
+/// The reply of a run on the workers of a placement, and its memory.
+fn run_placed<R: Threads + Sync, G: Gate>(
+    rt: &R,
+    alloc: Global,
+    accepted: &Accepted,
+    placed: &Placed,
+    gate: &G,
+) -> Result<(Reply, Field<Kept>), NoMemory>
+    requires accepted { AreAccepted accepted.now }
+    requires fit { InputsFit accepted.now.flat.model accepted.now.job.input }
+    requires placement { IsPlacement accepted.now.flat.model placed.now.of_instance placed.now.workers }
+    ensures reply { IfOk result (λ r. IsRunReply accepted.now.flat.model accepted.now.job.input (reply_of r.0)) }
+    ensures memory { IfOk result (λ r. IsRunField accepted.now.flat placed.now.of_instance (given_arrays accepted.now.job.input (main_inputs accepted.now.flat.model)) r.1) }
 {
-    job.transform.is_empty()
-}
-
-/// The reply to a placement.
-fn place_answer(alloc: Global, flat: &Flat, job: &Job, workers: u32) -> Result<Reply, NoMemory>
-    requires kept { IsSoundDocument flat.now.model job.now }
-    requires bounded { IsBounded flat.now.model }
-    requires workers { ArePlaced workers }
-    ensures { IfOk result (λ r. PlaceAnswers (record { model = flat.now.model; job = job.now }) workers (reply_of r)) }
-{
-    if !has_no_steps(job) {
-        return refusal(alloc, StatusKind::Unbuilt, &[]);
-    }
-    match allocate(alloc, flat, &job.allocate, workers) {
-        Ok(placed) => place_reply(alloc, flat, &placed),
-        Err(PlaceRefused::Entry { entry, cause }) => entry_reply(alloc, entry, &cause),
-        Err(PlaceRefused::NoMemory) => Err(NoMemory),
-    }
+    let flat = &accepted.flat;
+    let model = flat.model();
+    let inputs = given_arrays(alloc, accepted.job.input.as_slice(), main_inputs(model))?;
+    let nothing = Kept {
+        val: Val::Num(0),
+        worker: 0,
+    };
+    let memory = Field::filled(alloc, flat.cells(), nothing)?;
+    let (outputs, memory) = run(
+        rt,
+        alloc,
+        flat,
+        &accepted.levels,
+        placed,
+        &inputs,
+        memory,
+        gate,
+    )?;
+    let reply = outputs_reply(alloc, model, outputs.ports.as_slice())?;
+    Ok((reply, memory))
 }

@@ -1,6 +1,6 @@
 //! How an instance is written.
 
-ghost use Rattle.std.specs.Prelude.{◌≡◌, ◌++◌, ◌<◌, map, length, string_bytes, OnOk, IfOk};
+ghost use Rattle.std.specs.Prelude.{◌≡◌, ◌++◌, ◌<◌, ◌≤◌, map, length, string_bytes, OnOk, IfOk};
 ghost use Rattle.std.specs.List.{join_with_byte};
 ghost use Rattle.std.specs.Fmt.{decimal};
 ghost use Rattle.aol_shape.specs.Shape.{size, point_at};
@@ -16,7 +16,7 @@ use std::alloc::Global;
 /// Adds the indices of the point with this rank in a space of so many points, with commas between them.
 fn push_indices(text: &mut String, space: &[u32], points: u32, rank: u32) -> Result<(), NoMemory>
     requires points { points ≡ size space.now }
-    requires within { rank < points }
+    requires some { 1 ≤ points }
     ensures { OnOk result (string_bytes text.new ≡ string_bytes text.old ++ join_with_byte 44 (map decimal (point_at space.now rank))) }
 {
     let Some((entry, inner)) = space.split_first() else {
@@ -32,9 +32,9 @@ fn push_indices(text: &mut String, space: &[u32], points: u32, rank: u32) -> Res
 }
 
 /// Adds the point with this rank in a space of so many points.
-fn push_point(text: &mut String, space: &[u32], points: u32, rank: u32) -> Result<(), NoMemory>
+pub fn push_point(text: &mut String, space: &[u32], points: u32, rank: u32) -> Result<(), NoMemory>
     requires points { points ≡ size space.now }
-    requires within { rank < points }
+    requires some { 1 ≤ points }
     ensures { OnOk result (string_bytes text.new ≡ string_bytes text.old ++ shape_text (point_at space.now rank)) }
 {
     push_text(text, "{")?;

@@ -1,3 +1,4 @@
+ghost use Rattle.aol_cli.specs.Accept.{AcceptedHaveNoCause};
 ghost use Rattle.aol_cli.specs.OneRefusal.{OneRefusal, AcceptedIsNotRefused};
 ghost use Rattle.aol_cli.specs.OneReply.{OneReply};
 
@@ -14,4 +15,9 @@ pub fn there_is_one_refusal()
 /// A law: an accepted model has none.
 pub fn accepted_is_not_refused()
     ensures { AcceptedIsNotRefused }
+{}
+
+/// A law: bytes that are accepted have no cause to be refused, so `accept` is `Ok` exactly where they are accepted.
+pub fn accepted_have_no_cause()
+    ensures { AcceptedHaveNoCause }
 {}

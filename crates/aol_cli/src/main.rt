@@ -5,21 +5,23 @@
 #![tactic(auto)]
 
 mod accepted;
-mod answer;
+mod accepting;
 mod check;
+mod exec;
 mod fault;
 mod inputs;
 mod instance;
 mod laws;
 mod line;
-mod model;
-mod outputs;
 mod place;
 mod print;
+mod printed;
 mod program;
 mod refused;
+mod refusing;
 mod reply;
-mod run;
+#[cfg(test)]
+mod samples;
 mod status;
 #[cfg(test)]
 mod tests;
@@ -27,6 +29,7 @@ mod text;
 mod words;
 
 use aol_io::{StdSink, StdSource};
+use aol_level::NoGate;
 use status::StatusKind;
 use std::env;
 use std::io::{self, ErrorKind};
@@ -45,5 +48,13 @@ fn main(rt: HostRuntime) -> ExitCode {
     };
     let mut source = StdSource::new(rt.reader());
     let mut sink = StdSink::new(io::writer(&rt));
-    ExitCode::from(program::aol(rt.alloc(), words.as_slice(), &mut source, &mut sink).code)
+    let status = program::aol(
+        &rt,
+        rt.alloc(),
+        words.as_slice(),
+        &mut source,
+        &mut sink,
+        &NoGate,
+    );
+    ExitCode::from(status.code)
 }

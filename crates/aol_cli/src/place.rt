@@ -1,17 +1,22 @@
 //! The lines of a placement.
 
-ghost use Rattle.std.specs.Prelude.{◌≡◌, ◌++◌, ◌∷◌, ◌+◌, ◌<◌, ◌≤◌, ◌^◌, length, take, drop, flat_map, decimal, string_bytes, OnOk, IfOk};
+ghost use Rattle.std.specs.Prelude.{◌≡◌, ◌↔◌, IsTrue, [], ◌++◌, ◌∷◌, ◌+◌, ◌<◌, ◌≤◌, ◌^◌, length, take, drop, flat_map, decimal, string_bytes, OnOk, IfOk};
 ghost use Rattle.aol_flat.specs.Instance.{instances};
 ghost use Rattle.aol_cli.specs.Placed.{worker_text, place_lines};
 ghost use Rattle.aol_cli.specs.Checked.{cause_words};
+ghost use Rattle.aol_cli.specs.AcceptedAnswer.{PlaceAnswers, IsPlacedFor};
 ghost use Rattle.aol_cli.specs.Reply.{refusal, reply, reply_of};
+ghost use Rattle.aol_cli.specs.SoundDocument.{IsSoundDocument};
+ghost use Rattle.aol_cli.specs.Words.{IsWorkers};
+ghost use Rattle.aol_flat.specs.Limits.{IsBounded};
 
 use crate::line::{Word, refusal};
 use crate::reply::Reply;
 use crate::status::StatusKind;
 use crate::text::{push_number, push_text};
-use aol_allocate::{PlaceCause, Placed};
+use aol_allocate::{PlaceCause, PlaceRefused, Placed, allocate};
 use aol_flat::Flat;
+use aol_model::Job;
 use aol_shape::NoMemory;
 use std::alloc::Global;
 
@@ -29,7 +34,7 @@ fn push_workers(text: &mut String, placed: &Placed, base: u32, count: u32) -> Re
 }
 
 /// A line for each leaf: its path, and then the worker of each of its instances.
-pub fn place_reply(alloc: Global, flat: &Flat, placed: &Placed) -> Result<Reply, NoMemory>
+fn lines_of(alloc: Global, flat: &Flat, placed: &Placed) -> Result<Reply, NoMemory>
     requires placed { length placed.now.of_instance ≡ length (instances flat.now.model) }
     requires few { length placed.now.of_instance < 2 ^ 32 }
     ensures { IfOk result (λ r. reply_of r ≡ reply StatusKind.Done (place_lines flat.now.model placed.now.of_instance)) }
@@ -48,7 +53,7 @@ pub fn place_reply(alloc: Global, flat: &Flat, placed: &Placed) -> Result<Reply,
 }
 
 /// The refusal for an entry that places nothing: its number and the cause.
-pub fn entry_reply(alloc: Global, entry: u32, cause: &PlaceCause) -> Result<Reply, NoMemory>
+fn entry_reply(alloc: Global, entry: u32, cause: &PlaceCause) -> Result<Reply, NoMemory>
     ensures { IfOk result (λ r. reply_of r ≡ refusal StatusKind.Allocate (decimal entry ∷ cause_words cause.now)) }
 {
     match cause {
@@ -80,5 +85,50 @@ pub fn entry_reply(alloc: Global, entry: u32, cause: &PlaceCause) -> Result<Repl
                 Word::Point(point.as_slice()),
             ],
         ),
+    }
+}
+
+/// Whether there are no steps.
+fn has_no_steps(job: &Job) -> bool
+    ensures { IsTrue result ↔ (job.now.transform ≡ []) }
+{
+    job.transform.is_empty()
+}
+
+/// The workers of the instances by a document's entries; or the refusal of its steps or of an entry.
+pub fn placed_or_refused(
+    alloc: Global,
+    flat: &Flat,
+    job: &Job,
+    workers: u32,
+) -> Result<Result<Placed, Reply>, NoMemory>
+    requires { IsWorkers workers }
+    ensures { IfOk result (IsPlacedFor (record { model = flat.now.model; job = job.now }) workers) }
+{
+    if !has_no_steps(job) {
+        let reply = refusal(alloc, StatusKind::Unbuilt, &[])?;
+        return Ok(Err(reply));
+    }
+    match allocate(alloc, flat, &job.allocate, workers) {
+        Ok(placed) => Ok(Ok(placed)),
+        Err(PlaceRefused::Entry { entry, cause }) => {
+            let reply = entry_reply(alloc, entry, &cause)?;
+            Ok(Err(reply))
+        }
+        Err(PlaceRefused::NoMemory) => Err(NoMemory),
+    }
+}
+
+/// The reply to a placement.
+pub fn place_reply(alloc: Global, flat: &Flat, job: &Job, workers: u32) -> Result<Reply, NoMemory>
+    requires kept { IsSoundDocument flat.now.model job.now }
+    requires bounded { IsBounded flat.now.model }
+    requires workers { IsWorkers workers }
+    ensures { IfOk result (λ r. PlaceAnswers (record { model = flat.now.model; job = job.now }) workers (reply_of r)) }
+{
+    let outcome = placed_or_refused(alloc, flat, job, workers)?;
+    match outcome {
+        Ok(placed) => lines_of(alloc, flat, &placed),
+        Err(reply) => Ok(reply),
     }
 }

@@ -92,7 +92,7 @@ pub fn cycle_reply(alloc: Global, flat: &Flat, instance: u32) -> Result<Reply, N
 }
 
 /// The name of a task.
-fn name_of(task: &Task) -> &Name
+pub fn name_of(task: &Task) -> &Name
     ensures { result.now ≡ task_name task.now }
 {
     match task {
@@ -110,7 +110,7 @@ fn task_named<'a>(tasks: &'a [Task], name: &Name) -> Option<&'a Task>
 }
 
 /// The main task.
-fn main_task(model: &Model) -> Option<&Task>
+pub fn main_task(model: &Model) -> Option<&Task>
     ensures { option_copied result ≡ main_task model.now }
 {
     task_named(model.tasks.as_slice(), &model.main)
@@ -128,7 +128,7 @@ fn input(task: &Task, number: u32) -> Option<&Port>
 }
 
 /// The output of a task with this number.
-fn output(task: &Task, number: u32) -> Option<&Port>
+pub fn output(task: &Task, number: u32) -> Option<&Port>
     ensures { option_copied result ≡ slice_get (outputs_of task.now) number }
 {
     match task {

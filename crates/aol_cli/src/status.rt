@@ -1,10 +1,24 @@
 ghost use Rattle.std.specs.Prelude.{◌≡◌};
 ghost use Rattle.aol_cli.specs.Status.{code_of, word_of};
 
-/// What the program ends with.
-#[derive(Clone, Copy, Debug, PartialEq, Eq)]
+use aol_allocate::Placed;
+use aol_flat::Flat;
+use aol_level::Kept;
+use aol_scatter::Field;
+
+/// What ran: the model laid out, the worker of each instance, and the memory at the end.
+#[derive(Drop)]
+pub struct Ran {
+    pub flat: Flat,
+    pub placed: Placed,
+    pub memory: Field<Kept>,
+}
+
+/// What the program ends with: the code, and what ran where a run came to its end.
+#[derive(Drop)]
 pub struct Status {
     pub code: u8,
+    pub ran: Option<Ran>,
 }
 
 /// What a status tells.
@@ -46,6 +60,8 @@ pub enum StatusKind {
     Fault,
     /// The command isn't built for the document.
     Unbuilt,
+    /// A step of a program is stuck.
+    Stuck,
 }
 
 impl StatusKind {
@@ -72,6 +88,7 @@ impl StatusKind {
             StatusKind::Allocate => 15,
             StatusKind::Fault => 16,
             StatusKind::Unbuilt => 17,
+            StatusKind::Stuck => 18,
         }
     }
 
@@ -96,6 +113,7 @@ impl StatusKind {
             StatusKind::Allocate => "allocate",
             StatusKind::Fault => "fault",
             StatusKind::Unbuilt => "unbuilt",
+            StatusKind::Stuck => "stuck",
         }
     }
 }

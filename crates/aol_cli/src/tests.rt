@@ -1,58 +1,20 @@
 use crate::program::aol;
-use crate::text::push_text;
+use crate::samples::{
+    ADD, CHAIN, FILTER, FLIP, GRID, MATRIX, NEED, ONE, ONES, PASS, PROGRAM, ROUND, SPREAD, SQUARE,
+    STEPPED, SUMS, TWO, WIDE,
+};
+use crate::status::Ran;
+use crate::text::{push_integer, push_number, push_text};
+use aol_expr::Val;
 use aol_io::{MemSink, MemSource};
-use aol_shape::Items;
+use aol_level::{Gate, Kept, NoGate};
+use aol_shape::{Items, NoMemory};
 use std::alloc::Global;
+use std::marker::Sync;
 use std::str::from_utf8;
+use std::sync::atomic::{AtomicU64, Ordering};
 use std::test::Fail;
-
-/// A document of one task, which adds two arrays.
-const ADD: &str =
-    r#"{"allocate":[],"input":{"a":[1,2,3,4],"b":[10,20,30,40]},"model":{"main":"Add","tasks":[{"in":[{"name":"a","shape":"{2,2}"},{"name":"b","shape":"{2,2}"}],"kind":"elementary","name":"Add","out":[{"expr":"a{$0,$1}+b{$0,$1}","name":"y","shape":"{2,2}"}]}]},"transform":[],"version":2}"#;
-
-/// A document of one task, which squares a number of 16 bits.
-const SQUARE: &str =
-    r#"{"allocate":[],"input":{"a":[181]},"model":{"main":"Sq16","tasks":[{"in":[{"name":"a","shape":"{}","type":"int16"}],"kind":"elementary","name":"Sq16","out":[{"expr":"a{}*a{}","name":"s","shape":"{}","type":"int16"}]}]},"transform":[],"version":2}"#;
-
-/// A document of one task, which needs no inputs and much work.
-const ONES: &str =
-    r#"{"allocate":[],"input":{},"model":{"main":"Ones","tasks":[{"in":[],"kind":"elementary","name":"Ones","out":[{"expr":"sum(k,1048576,1)","name":"y","shape":"{4095}"}]}]},"transform":[],"version":2}"#;
-
-/// A document of a filter over windows of three numbers.
-const FILTER: &str =
-    r#"{"allocate":[],"input":{"x":[1,2,3,4,5,6,7,8]},"model":{"main":"Filter","tasks":[{"in":[{"name":"w","shape":"{3}"}],"kind":"elementary","name":"Tap","out":[{"expr":"w{0}+w{1}+w{2}","name":"s","shape":"{}"}]},{"in":[{"name":"x","shape":"{8}"}],"kind":"repeated","links":[],"name":"Filter","out":[{"name":"y","shape":"{8}"}],"space":"{8}","task":"Tap","tilers":[{"inner":"w","outer":"x","tiler":"(origin={-1},paving={{1}},fitting={{1}})"},{"inner":"s","outer":"y","tiler":"(origin={0},paving={{1}},fitting={})"}]}]},"transform":[],"version":2}"#;
-
-/// A document in which two repetitions write one point.
-const SPREAD: &str =
-    r#"{"allocate":[],"input":{},"model":{"main":"Spread","tasks":[{"in":[{"name":"a","shape":"{}"}],"kind":"elementary","name":"Trip","out":[{"expr":"a{}+$0","name":"t","shape":"{3}"}]},{"in":[{"name":"x","shape":"{4}"}],"kind":"repeated","links":[],"name":"Spread","out":[{"name":"y","shape":"{8}"}],"space":"{4}","task":"Trip","tilers":[{"inner":"a","outer":"x","tiler":"(origin={0},paving={{1}},fitting={})"},{"inner":"t","outer":"y","tiler":"(origin={0},paving={{2}},fitting={{1}})"}]}]},"transform":[]}"#;
-
-/// A document in which a task reads every third point of nine, and two of each three are written.
-const PASS: &str =
-    r#"{"allocate":[],"input":{},"model":{"main":"Pass3","tasks":[{"in":[{"name":"a","shape":"{}"}],"kind":"elementary","name":"Pair","out":[{"expr":"a{}*10+$0","name":"t","shape":"{2}"}]},{"in":[{"name":"x","shape":"{3}"}],"kind":"repeated","links":[],"name":"Holes","out":[{"name":"y","shape":"{9}"}],"space":"{3}","task":"Pair","tilers":[{"inner":"a","outer":"x","tiler":"(origin={0},paving={{1}},fitting={})"},{"inner":"t","outer":"y","tiler":"(origin={0},paving={{3}},fitting={{1}})"}]},{"in":[{"name":"p","shape":"{3}"}],"kind":"elementary","name":"Add3","out":[{"expr":"p{0}+p{1}","name":"s","shape":"{}"}]},{"in":[{"name":"z","shape":"{9}"}],"kind":"repeated","links":[],"name":"Skip3","out":[{"name":"q","shape":"{3}"}],"space":"{3}","task":"Add3","tilers":[{"inner":"p","outer":"z","tiler":"(origin={0},paving={{3}},fitting={{1}})"},{"inner":"s","outer":"q","tiler":"(origin={0},paving={{1}},fitting={})"}]},{"in":[{"name":"x","shape":"{3}"}],"kind":"compound","links":[{"from":"x","to":"h.x"},{"from":"h.y","to":"s.z"},{"from":"s.q","to":"q"}],"name":"Pass3","out":[{"name":"q","shape":"{3}"}],"parts":[{"name":"h","task":"Holes"},{"name":"s","task":"Skip3"}],"reshapes":[]}]},"transform":[]}"#;
-
-/// A document in which each repetition needs the one before.
-const SUMS: &str =
-    r#"{"allocate":[],"input":{"x":[3,1,4,1,5,9]},"model":{"main":"Run6","tasks":[{"in":[{"name":"a","shape":"{}"},{"name":"t","shape":"{}"}],"kind":"elementary","name":"Acc","out":[{"expr":"a{}+t{}","name":"s","shape":"{}"}]},{"in":[{"name":"x","shape":"{6}"}],"kind":"repeated","links":[{"default":0,"distance":"{1}","from":"s","modulo":false,"to":"t"}],"name":"Run6","out":[{"name":"y","shape":"{6}"}],"space":"{6}","task":"Acc","tilers":[{"inner":"a","outer":"x","tiler":"(origin={0},paving={{1}},fitting={})"},{"inner":"s","outer":"y","tiler":"(origin={0},paving={{1}},fitting={})"}]}]},"transform":[]}"#;
-
-/// The same with a link that wraps.
-const ROUND: &str =
-    r#"{"allocate":[],"input":{},"model":{"main":"RunW","tasks":[{"in":[{"name":"a","shape":"{}"},{"name":"t","shape":"{}"}],"kind":"elementary","name":"Acc","out":[{"expr":"a{}+t{}","name":"s","shape":"{}"}]},{"in":[{"name":"x","shape":"{6}"}],"kind":"repeated","links":[{"default":null,"distance":"{1}","from":"s","modulo":true,"to":"t"}],"name":"RunW","out":[{"name":"y","shape":"{6}"}],"space":"{6}","task":"Acc","tilers":[{"inner":"a","outer":"x","tiler":"(origin={0},paving={{1}},fitting={})"},{"inner":"s","outer":"y","tiler":"(origin={0},paving={{1}},fitting={})"}]}]},"transform":[]}"#;
-
-/// A document with links in both directions.
-const TWO: &str =
-    r#"{"allocate":[],"input":{"x":[1,2,3]},"model":{"main":"Two","tasks":[{"in":[{"name":"a","shape":"{}"},{"name":"t","shape":"{}"}],"kind":"elementary","name":"Acc","out":[{"expr":"a{}+t{}","name":"s","shape":"{}"}]},{"in":[{"name":"a","shape":"{}"},{"name":"l","shape":"{}"},{"name":"r","shape":"{}"}],"kind":"compound","links":[{"from":"a","to":"f.a"},{"from":"l","to":"f.t"},{"from":"a","to":"g.a"},{"from":"r","to":"g.t"},{"from":"f.s","to":"p"},{"from":"g.s","to":"q"}],"name":"Both","out":[{"name":"p","shape":"{}"},{"name":"q","shape":"{}"}],"parts":[{"name":"f","task":"Acc"},{"name":"g","task":"Acc"}],"reshapes":[]},{"in":[{"name":"x","shape":"{3}"}],"kind":"repeated","links":[{"default":0,"distance":"{1}","from":"p","modulo":false,"to":"l"},{"default":0,"distance":"{-1}","from":"q","modulo":false,"to":"r"}],"name":"Two","out":[{"name":"y","shape":"{3}"},{"name":"z","shape":"{3}"}],"space":"{3}","task":"Both","tilers":[{"inner":"a","outer":"x","tiler":"(origin={0},paving={{1}},fitting={})"},{"inner":"p","outer":"y","tiler":"(origin={0},paving={{1}},fitting={})"},{"inner":"q","outer":"z","tiler":"(origin={0},paving={{1}},fitting={})"}]}]},"transform":[]}"#;
-
-/// A document with an entry that exchanges both indices.
-const GRID: &str =
-    r#"{"allocate":[{"from":"(origin={0,0},paving={{1,0},{0,1}},fitting={})","leaf":"/*","pattern":"{}","processors":"{2,2}","space":"{2,2}","to":"(origin={0,0},paving={{0,1},{1,0}},fitting={})"}],"input":{"x":[1,2,3,4]},"model":{"main":"Grid","tasks":[{"in":[{"name":"a","shape":"{}"}],"kind":"elementary","name":"Neg","out":[{"expr":"0-a{}","name":"s","shape":"{}"}]},{"in":[{"name":"x","shape":"{2,2}"}],"kind":"repeated","links":[],"name":"Grid","out":[{"name":"y","shape":"{2,2}"}],"space":"{2,2}","task":"Neg","tilers":[{"inner":"a","outer":"x","tiler":"(origin={0,0},paving={{1,0},{0,1}},fitting={})"},{"inner":"s","outer":"y","tiler":"(origin={0,0},paving={{1,0},{0,1}},fitting={})"}]}]},"transform":[],"version":2}"#;
-
-/// A document of one reshape.
-const FLIP: &str =
-    r#"{"allocate":[],"input":{"x":[1,2,3,4,5,6]},"model":{"main":"Flip","tasks":[{"in":[{"name":"x","shape":"{2,3}"}],"kind":"compound","links":[],"name":"Flip","out":[{"name":"y","shape":"{3,2}"}],"parts":[],"reshapes":[{"from":"x","pattern":"{3}","source":"(origin={0,0},paving={{1,0}},fitting={{0,1}})","space":"{2}","target":"(origin={0,0},paving={{0,1}},fitting={{1,0}})","to":"y"}]}]},"transform":[],"version":2}"#;
-
-/// A document of one repetition with more elements than the limit.
-const WIDE: &str =
-    r#"{"allocate":[],"input":{},"model":{"main":"Ten","tasks":[{"in":[{"name":"a","shape":"{}"},{"name":"b","shape":"{}"}],"kind":"elementary","name":"Neg","out":[{"expr":"0-a{}","name":"s","shape":"{}"}]},{"in":[{"name":"x","shape":"{4194304}"}],"kind":"repeated","links":[],"name":"Ten","out":[{"name":"y","shape":"{4194304}"}],"space":"{4194304}","task":"Neg","tilers":[{"inner":"a","outer":"x","tiler":"(origin={0},paving={{1}},fitting={})"},{"inner":"b","outer":"x","tiler":"(origin={0},paving={{1}},fitting={})"},{"inner":"s","outer":"y","tiler":"(origin={0},paving={{1}},fitting={})"}]}]},"transform":[]}"#;
+use std::thread::Threads;
 
 /// The words between blanks.
 fn words_of(alloc: Global, words: &str) -> Result<Vec<String>, Fail> {
@@ -78,7 +40,8 @@ fn sink_of(alloc: Global, failing: u32) -> Result<MemSink, Fail> {
 }
 
 /// The status of a call with these words, which have blanks between them, and its sink.
-fn called(
+fn called<R: Threads + Sync>(
+    rt: &R,
     alloc: Global,
     words: &str,
     bytes: &[u8],
@@ -88,8 +51,8 @@ fn called(
     let mut sink = sink_of(alloc, failing_write)?;
     let mut source = source_of(alloc, bytes, failing_read)?;
     let given = words_of(alloc, words)?;
-    let status = aol(alloc, given.as_slice(), &mut source, &mut sink).code;
-    Ok((status, sink))
+    let status = aol(rt, alloc, given.as_slice(), &mut source, &mut sink, &NoGate);
+    Ok((status.code, sink))
 }
 
 /// The document with this part of it changed to another.
@@ -120,16 +83,12 @@ fn documents_are_printed(rt: HostRuntime) -> Result<(), Fail> {
         (ADD, r#","b":[10,20,30,40]"#, ""),
         (ADD, "[10,20,30,40]", "[1,2,3]"),
         (ADD, "40]", r#"40],"c":[-7]"#),
-        (
-            ADD,
-            r#""transform":[]"#,
-            r#""transform":[{"block":"{2}","kind":"skew","outer":"{2}","task":"Add"}]"#,
-        ),
+        (STEPPED, "", ""),
         (ADD, "+b{$0,$1}", "-(a{1,0}-b{$0,$1})"),
     ];
     for (document, old, new) in cases {
         let text = changed(alloc, document, old, new)?;
-        let (code, sink) = called(alloc, "print", text.as_bytes(), 0, 0)?;
+        let (code, sink) = called(&rt, alloc, "print", text.as_bytes(), 0, 0)?;
         assert_eq!(rt;
             from_utf8(sink.bytes())?.strip_suffix("\n"),
             Some(text.as_str())
@@ -140,7 +99,8 @@ fn documents_are_printed(rt: HostRuntime) -> Result<(), Fail> {
 }
 
 /// The status and the line that a call answers for the document with this part of it changed to another.
-fn answer_of(
+fn answer_of<R: Threads + Sync>(
+    rt: &R,
     alloc: Global,
     document: &str,
     old: &str,
@@ -148,7 +108,7 @@ fn answer_of(
     words: &str,
 ) -> Result<(u8, String), Fail> {
     let text = changed(alloc, document, old, new)?;
-    let (code, sink) = called(alloc, words, text.as_bytes(), 0, 0)?;
+    let (code, sink) = called(rt, alloc, words, text.as_bytes(), 0, 0)?;
     let line = from_utf8(sink.bytes())?
         .strip_suffix("\n")
         .ok_or("no line")?;
@@ -182,7 +142,7 @@ fn canonical_texts_and_runs(rt: HostRuntime) -> Result<(), Fail> {
         (SQUARE, "", "", "run 1", 0, "s {} 32761"),
     ];
     for (document, old, new, words, status, written) in cases {
-        let (code, line) = answer_of(rt.alloc(), document, old, new, words)?;
+        let (code, line) = answer_of(&rt, rt.alloc(), document, old, new, words)?;
         assert_eq!(rt; line.as_str(), written);
         assert_eq!(rt; code, status);
     }
@@ -251,7 +211,7 @@ fn places_of_texts_and_keys(rt: HostRuntime) -> Result<(), Fail> {
         ),
     ];
     for (document, old, new, words, status, written) in cases {
-        let (code, line) = answer_of(rt.alloc(), document, old, new, words)?;
+        let (code, line) = answer_of(&rt, rt.alloc(), document, old, new, words)?;
         assert_eq!(rt; line.as_str(), written);
         assert_eq!(rt; code, status);
     }
@@ -259,7 +219,7 @@ fn places_of_texts_and_keys(rt: HostRuntime) -> Result<(), Fail> {
 }
 
 #[test]
-fn rules_and_what_is_unbuilt(rt: HostRuntime) -> Result<(), Fail> {
+fn rules_and_limits(rt: HostRuntime) -> Result<(), Fail> {
     // the document, a part of it, and what stands in its place; the words; the status and the line
     let cases = [
         (
@@ -283,8 +243,8 @@ fn rules_and_what_is_unbuilt(rt: HostRuntime) -> Result<(), Fail> {
             r#"}]},"transform"#,
             r#"},{"in":[{"name":"a","shape":"{2,2}"},{"name":"b","shape":"{2,2}"}],"kind":"compound","links":[{"from":"a","to":"p.a"},{"from":"b","to":"p.b"},{"from":"p.y","to":"y"}],"name":"Up","out":[{"name":"y","shape":"{2,2}"}],"parts":[{"name":"p","task":"Add"}],"reshapes":[]}],"main":"Up"},"transform"#,
             "run 1",
-            17,
-            "unbuilt",
+            0,
+            "y {2,2} 11 22 33 44",
         ),
         (
             ADD,
@@ -293,14 +253,6 @@ fn rules_and_what_is_unbuilt(rt: HostRuntime) -> Result<(), Fail> {
             "check",
             0,
             "accepted 1 instances 1 levels",
-        ),
-        (
-            ADD,
-            r#""transform":[]"#,
-            r#""transform":[{"block":"{2}","kind":"skew","outer":"{2}","task":"Add"}]"#,
-            "run 1",
-            17,
-            "unbuilt",
         ),
         (ONES, "4095", "4096", "print", 9, "limit / work"),
         (
@@ -313,7 +265,7 @@ fn rules_and_what_is_unbuilt(rt: HostRuntime) -> Result<(), Fail> {
         ),
     ];
     for (document, old, new, words, status, written) in cases {
-        let (code, line) = answer_of(rt.alloc(), document, old, new, words)?;
+        let (code, line) = answer_of(&rt, rt.alloc(), document, old, new, words)?;
         assert_eq!(rt; line.as_str(), written);
         assert_eq!(rt; code, status);
     }
@@ -331,19 +283,29 @@ fn models_that_are_accepted(rt: HostRuntime) -> Result<(), Fail> {
         (SUMS, "check", 0, "accepted 6 instances 6 levels"),
         (TWO, "check", 0, "accepted 6 instances 3 levels"),
         (FLIP, "check", 0, "accepted 6 instances 1 levels"),
+        (CHAIN, "check", 0, "accepted 12 instances 2 levels"),
         (FILTER, "print", 0, FILTER),
         (GRID, "print", 0, GRID),
         (FLIP, "print", 0, FLIP),
-        (FILTER, "run 1", 17, "unbuilt"),
+        (FILTER, "run 3", 0, "y {8} 11 6 9 12 15 18 21 16"),
+        (MATRIX, "run 1", 0, "c {2,2} 58 64 139 154"),
+        (SUMS, "run 4", 0, "y {6} 3 4 8 9 14 23"),
+        (TWO, "run 2", 0, "y {3} 1 3 6\nz {3} 6 5 3"),
+        (FLIP, "run 64", 0, "y {3,2} 1 4 2 5 3 6"),
+        (CHAIN, "run 2", 0, "z {4} 26 36 54 48"),
+        (ONE, "run 1", 0, "y {} 42"),
+        (GRID, "run 3", 0, "y {2,2} -1 -2 -3 -4"),
+        (NEED, "run 1", 16, "fault overflow Big y {1}"),
         (FILTER, "place 3", 0, "/* 0 0 0 1 1 1 2 2"),
         (FLIP, "place 2", 0, "/#0 0 0 0 1 1 1"),
         (ADD, "place 64", 0, "/ 0"),
+        (ONE, "place 1", 0, "/* 0"),
         (GRID, "place 1", 0, "/* 0 0 0 0"),
         (GRID, "place 3", 0, "/* 0 2 1 0"),
         (GRID, "place 64", 0, "/* 0 2 1 3"),
     ];
     for (document, words, status, written) in cases {
-        let (code, line) = answer_of(rt.alloc(), document, "", "", words)?;
+        let (code, line) = answer_of(&rt, rt.alloc(), document, "", "", words)?;
         assert_eq!(rt; line.as_str(), written);
         assert_eq!(rt; code, status);
     }
@@ -373,6 +335,14 @@ fn models_that_are_refused(rt: HostRuntime) -> Result<(), Fail> {
             "twice / s.z {3} first 0 {1} {} second 1 {2} {}",
         ),
         (PASS, "", "", "place 1", 11, "unwritten /s/*{0} p {2}"),
+        (
+            PASS,
+            r#""p","shape":"{3}""#,
+            r#""p","shape":"{2}""#,
+            "run 2",
+            0,
+            "q {3} 21 41 61",
+        ),
         (
             PASS,
             r#""main":"Pass3""#,
@@ -425,7 +395,7 @@ fn models_that_are_refused(rt: HostRuntime) -> Result<(), Fail> {
         ),
     ];
     for (document, old, new, words, status, written) in cases {
-        let (code, line) = answer_of(rt.alloc(), document, old, new, words)?;
+        let (code, line) = answer_of(&rt, rt.alloc(), document, old, new, words)?;
         assert_eq!(rt; line.as_str(), written);
         assert_eq!(rt; code, status);
     }
@@ -452,6 +422,31 @@ fn inputs_and_faults(rt: HostRuntime) -> Result<(), Fail> {
             13,
             "input b length",
         ),
+        (
+            STEPPED,
+            "[10,20,30,40]",
+            "[1,2,3]",
+            "run 1",
+            13,
+            "input b length",
+        ),
+        (STEPPED, "", "", "run 1", 17, "unbuilt"),
+        (
+            NEED,
+            r#""z","tiler":"(origin={1}"#,
+            r#""z","tiler":"(origin={0}"#,
+            "run 1",
+            0,
+            "q {1} 9223372036854775807",
+        ),
+        (
+            GRID,
+            r#""leaf":"/*""#,
+            r#""leaf":"/a""#,
+            "run 3",
+            15,
+            "allocate 0 no-leaf",
+        ),
         (ADD, "40]", r#"40],"c":[]"#, "run 1", 13, "input c unknown"),
         (
             ADD,
@@ -474,7 +469,7 @@ fn inputs_and_faults(rt: HostRuntime) -> Result<(), Fail> {
         (SQUARE, "181", "32768", "run 1", 16, "fault range Sq16 s {}"),
     ];
     for (document, old, new, words, status, written) in cases {
-        let (code, line) = answer_of(rt.alloc(), document, old, new, words)?;
+        let (code, line) = answer_of(&rt, rt.alloc(), document, old, new, words)?;
         assert_eq!(rt; line.as_str(), written);
         assert_eq!(rt; code, status);
     }
@@ -486,7 +481,7 @@ fn fronts_and_deep_texts_are_no_documents(rt: HostRuntime) -> Result<(), Fail> {
     let alloc = rt.alloc();
     for size in 0..41 {
         let (front, _) = ADD.as_bytes().split_at_checked(size).ok_or("too short")?;
-        let (code, sink) = called(alloc, "print", front, 0, 0)?;
+        let (code, sink) = called(&rt, alloc, "print", front, 0, 0)?;
         assert_eq!(rt; from_utf8(sink.bytes())?, "json\n");
         assert_eq!(rt; code, 6);
     }
@@ -494,7 +489,7 @@ fn fronts_and_deep_texts_are_no_documents(rt: HostRuntime) -> Result<(), Fail> {
         let mut bytes = vec![in alloc; b'['; depth]?;
         let closing = vec![in alloc; b']'; depth]?;
         bytes.extend_from_slice(closing.as_slice())?;
-        let (code, sink) = called(alloc, "print", bytes.as_slice(), 0, 0)?;
+        let (code, sink) = called(&rt, alloc, "print", bytes.as_slice(), 0, 0)?;
         assert_eq!(rt; from_utf8(sink.bytes())?, line);
         assert_eq!(rt; code, status);
     }
@@ -505,10 +500,10 @@ fn fronts_and_deep_texts_are_no_documents(rt: HostRuntime) -> Result<(), Fail> {
 fn a_task_has_at_most_64_ports(rt: HostRuntime) -> Result<(), Fail> {
     let alloc = rt.alloc();
     let most = with_inputs(alloc, 63)?;
-    let (code, _) = called(alloc, "print", most.as_bytes(), 0, 0)?;
+    let (code, _) = called(&rt, alloc, "print", most.as_bytes(), 0, 0)?;
     assert_eq!(rt; code, 0);
     let more = with_inputs(alloc, 64)?;
-    let (code, sink) = called(alloc, "print", more.as_bytes(), 0, 0)?;
+    let (code, sink) = called(&rt, alloc, "print", more.as_bytes(), 0, 0)?;
     assert_eq!(rt;
         from_utf8(sink.bytes())?,
         "limit $.model.tasks[0].out ports\n"
@@ -531,7 +526,8 @@ fn calls_end_as_they_must(rt: HostRuntime) -> Result<(), Fail> {
         ("", ADD, 1, 0, 1, "words\n"),
         ("run", ADD, 1, 0, 1, "words\n"),
         ("run 0", ADD, 1, 0, 1, "words\n"),
-        ("run 2", ADD, 1, 0, 1, "words\n"),
+        ("run 2", ADD, 1, 0, 2, "read\n"),
+        ("run 65", ADD, 1, 0, 1, "words\n"),
         ("run 01", ADD, 1, 0, 1, "words\n"),
         ("run 1 1", ADD, 1, 0, 1, "words\n"),
         ("print 1", ADD, 1, 0, 1, "words\n"),
@@ -547,6 +543,7 @@ fn calls_end_as_they_must(rt: HostRuntime) -> Result<(), Fail> {
     ];
     for (words, document, failing_read, failing_write, status, written) in cases {
         let (code, sink) = called(
+            &rt,
             alloc,
             words,
             document.as_bytes(),
@@ -570,8 +567,190 @@ fn a_document_has_at_most_16_mebibytes(rt: HostRuntime) -> Result<(), Fail> {
         let blanks = size.checked_sub(ADD.as_bytes().len()).ok_or("too small")?;
         let mut bytes = vec![in alloc; b' '; blanks]?;
         bytes.extend_from_slice(ADD.as_bytes())?;
-        let (code, sink) = called(alloc, "run 1", bytes.as_slice(), 0, 0)?;
+        let (code, sink) = called(&rt, alloc, "run 1", bytes.as_slice(), 0, 0)?;
         assert_eq!(rt; from_utf8(sink.bytes())?, written);
+        assert_eq!(rt; code, status);
+    }
+    Ok(())
+}
+
+/// Adds a cell: its value, and after a sign the worker that wrote it.
+fn push_cell(text: &mut String, kept: Kept) -> Result<(), NoMemory> {
+    push_text(text, " ")?;
+    match kept.val {
+        Val::Num(number) => push_integer(text, number)?,
+        Val::Bad(_) => push_text(text, "bad")?,
+    }
+    push_text(text, "@")?;
+    push_number(text, kept.worker)
+}
+
+/// What ran: how many instances and workers there are, and then the cells.
+fn text_of(alloc: Global, ran: &Ran) -> Result<String, NoMemory> {
+    let mut text = String::new(alloc);
+    push_number(&mut text, ran.flat.instances())?;
+    push_text(&mut text, " ")?;
+    push_number(&mut text, ran.placed.workers())?;
+    for cell in 0..ran.memory.len() {
+        push_cell(&mut text, ran.memory.get(cell))?;
+    }
+    Ok(text)
+}
+
+/// What a call hands back; empty where nothing ran.
+fn ran_of<R: Threads + Sync, G: Gate>(
+    rt: &R,
+    alloc: Global,
+    words: &str,
+    document: &str,
+    gate: &G,
+) -> Result<String, Fail> {
+    let mut sink = sink_of(alloc, 0)?;
+    let mut source = source_of(alloc, document.as_bytes(), 0)?;
+    let given = words_of(alloc, words)?;
+    let status = aol(rt, alloc, given.as_slice(), &mut source, &mut sink, gate);
+    match status.ran {
+        Some(ran) => Ok(text_of(alloc, &ran).map_err(|_| "no memory")?),
+        None => Ok(String::new(alloc)),
+    }
+}
+
+/// A run hands back its memory, with the worker of each cell; other calls hand back nothing.
+#[test]
+fn what_ran_is_handed_back(rt: HostRuntime) -> Result<(), Fail> {
+    // the words, the document, and the instances, the workers and the cells
+    let cases = [
+        (
+            "run 12",
+            CHAIN,
+            "12 12 1@0 2@0 3@0 4@0 5@0 6@0 7@0 8@0 26@0 36@3 54@6 48@9 11@0 6@1 9@3 12@4 15@6 18@7 21@9 16@10",
+        ),
+        (
+            "run 3",
+            FILTER,
+            "8 3 1@0 2@0 3@0 4@0 5@0 6@0 7@0 8@0 11@0 6@0 9@0 12@1 15@1 18@1 21@2 16@2",
+        ),
+        ("run 3", GRID, "4 3 1@0 2@0 3@0 4@0 -1@0 -2@2 -3@1 -4@0"),
+        (
+            "run 1",
+            NEED,
+            "2 1 9223372036854775807@0 bad@0 9223372036854775807@0 bad@0",
+        ),
+        ("run 1", STEPPED, ""),
+        ("place 3", FILTER, ""),
+        ("check", FILTER, ""),
+    ];
+    for (words, document, ran) in cases {
+        let handed = ran_of(&rt, rt.alloc(), words, document, &NoGate)?;
+        assert_eq!(rt; handed.as_str(), ran);
+    }
+    Ok(())
+}
+
+/// A gate that counts the passes.
+#[derive(Drop)]
+struct Counter {
+    passes: AtomicU64,
+}
+
+impl Gate for Counter {
+    fn pass(&self, _level: u32, _worker: u32) {
+        self.passes.fetch_add(1, Ordering::SeqCst);
+    }
+}
+
+/// Each worker passes the gate once in each level in which it has an instance.
+#[test]
+fn workers_pass_the_gate(rt: HostRuntime) -> Result<(), Fail> {
+    // the words, the document and the passes
+    let cases = [
+        ("run 1", FILTER, 1u64),
+        ("run 8", FILTER, 8),
+        ("run 64", FILTER, 8),
+        ("run 12", CHAIN, 12),
+        ("run 4", SUMS, 6),
+        ("run 2", TWO, 5),
+        ("place 2", TWO, 0),
+    ];
+    for (words, document, passes) in cases {
+        let gate = Counter {
+            passes: AtomicU64::new(0),
+        };
+        let _ = ran_of(&rt, rt.alloc(), words, document, &gate)?;
+        assert_eq!(rt; gate.passes.load(Ordering::SeqCst), passes, "{words}");
+    }
+    Ok(())
+}
+
+/// A gate at which two workers wait for one another, and which counts those that waited in vain.
+#[derive(Drop)]
+struct Meeting {
+    first: AtomicU64,
+    second: AtomicU64,
+    alone: AtomicU64,
+}
+
+impl Gate for Meeting {
+    fn pass(&self, _level: u32, worker: u32) {
+        let (own, other) = if worker == 0 {
+            (&self.first, &self.second)
+        } else {
+            (&self.second, &self.first)
+        };
+        own.store(1, Ordering::SeqCst);
+        for _ in 0..100_000_000u32 {
+            if other.load(Ordering::SeqCst) == 1 {
+                return;
+            }
+        }
+        self.alone.fetch_add(1, Ordering::SeqCst);
+    }
+}
+
+/// Two workers of one level run at once.
+#[test]
+fn two_workers_meet(rt: HostRuntime) -> Result<(), Fail> {
+    let gate = Meeting {
+        first: AtomicU64::new(0),
+        second: AtomicU64::new(0),
+        alone: AtomicU64::new(0),
+    };
+    let _ = ran_of(&rt, rt.alloc(), "run 2", FILTER, &gate)?;
+    assert_eq!(rt; gate.first.load(Ordering::SeqCst), 1);
+    assert_eq!(rt; gate.second.load(Ordering::SeqCst), 1);
+    assert_eq!(rt; gate.alone.load(Ordering::SeqCst), 0);
+    Ok(())
+}
+
+#[test]
+fn programs_are_run(rt: HostRuntime) -> Result<(), Fail> {
+    // a part of the sample, and what stands in its place; the status and the lines
+    let cases = [
+        ("", "", 0, "V 1 2 3\nF 0 0 0"),
+        ("up", "down", 0, "V 1 2 3\nF 0 0 0"),
+        ("1,2", "-7", 0, "V -7 0 -7\nF 0 0 0"),
+        ("1,2", "9223372036854775807,1", 18, "stuck 0 0"),
+        (
+            "step_0_1(void) {",
+            "step_0_1(void) {\\nV[3LL] = 0LL;",
+            18,
+            "stuck 0 1",
+        ),
+        ("3]", "3]]", 7, "grammar $.program@3"),
+        ("V[2LL]", "V[2LL]]", 7, "grammar $.program@6"),
+        ("up", "side", 7, "grammar $.order"),
+        (
+            "void step_0_1(void) {",
+            "void step_0_1(void) {\\ni64 a0 = 0LL;\\nfor (a0 = 0LL; a0 < 4294967296LL; a0 = a0 + 1LL) {\\n}",
+            9,
+            "limit $.program work",
+        ),
+        ("1,2", "1,2,3,4", 13, "input memory length"),
+        ("{\"memory\"", "{memory", 6, "json"),
+    ];
+    for (old, new, status, written) in cases {
+        let (code, lines) = answer_of(&rt, rt.alloc(), PROGRAM, old, new, "exec")?;
+        assert_eq!(rt; lines.as_str(), written);
         assert_eq!(rt; code, status);
     }
     Ok(())

@@ -1,4 +1,5 @@
-ghost use Rattle.std.specs.Prelude.{◌≡◌, ◌↔◌, ◌∷◌, [], ℕ, IsTrue, map, codes, decimal, string_bytes, IfSome, IfNone};
+ghost use Rattle.std.specs.Prelude.{◌≡◌, ◌↔◌, ◌∷◌, [], ℕ, IsTrue, map, decimal, string_bytes, IfSome, IfNone};
+ghost use Rattle.aol_cli.specs.Words.{IsWorkers};
 
 use aol_allocate::MAX_WORKERS;
 use itoa::Buffer;
@@ -14,6 +15,8 @@ pub enum Command {
     Run(u32),
     /// Which of so many workers runs each instance.
     Place(u32),
+    /// A program of the named subset of C, run in one order.
+    Exec,
 }
 
 /// Whether the word is this text.
@@ -35,32 +38,32 @@ fn are_texts(words: &[String], texts: &[&str]) -> bool
     }
 }
 
-/// Whether the words are `place` and this number.
-fn places_by(words: &[String], workers: u32) -> bool
-    ensures { IsTrue result ↔ (map string_bytes words.now ≡ codes "place" ∷ decimal workers ∷ []) }
+/// Whether the words are this name and this number.
+fn are_numbered(words: &[String], name: &str, number: u32) -> bool
+    ensures { IsTrue result ↔ (map string_bytes words.now ≡ name.now ∷ decimal number ∷ []) }
 {
     let mut digits = Buffer::new();
-    are_texts(words, &["place", digits.format(workers)])
+    are_texts(words, &[name, digits.format(number)])
+}
+
+/// The number of workers in these words, where they are this name and such a number.
+fn workers_after(words: &[String], name: &str) -> Option<u32>
+    ensures words { IfSome result (λ n. map string_bytes words.now ≡ name.now ∷ decimal n ∷ []) }
+    ensures workers { IfSome result (λ n. IsWorkers n) }
+    ensures none { IfNone result ((n : ℕ) → IsWorkers n → map string_bytes words.now ≡ name.now ∷ decimal n ∷ [] → ⊥) }
+{
+    for before in 0..MAX_WORKERS {
+        if are_numbered(words, name, before + 1) {
+            return Some(before + 1);
+        }
+    }
+    None
 }
 
 impl Command {
-    ghost use Rattle.aol_cli.specs.Words.{ArePlaced, Means, IsNoCommand};
-
-    /// For how many workers these words ask for a placement; none where they don't.
-    fn workers_placed(words: &[String]) -> Option<u32>
-        ensures some { IfSome result (λ n. Means (map string_bytes words.now) (Command.Place n)) }
-        ensures none { IfNone result ((n : ℕ) → Means (map string_bytes words.now) (Command.Place n) → ⊥) }
-    {
-        for before in 0..MAX_WORKERS {
-            if places_by(words, before + 1) {
-                return Some(before + 1);
-            }
-        }
-        None
-    }
+    ghost use Rattle.aol_cli.specs.Words.{Means, IsNoCommand};
 
     /// The command that these words name; none where they name none.
-    #[tactic(auto, using(crate::proofs::Commands::decimal_one))]
     pub fn of_words(words: &[String]) -> Option<Command>
         ensures command { IfSome result (Means (map string_bytes words.now)) }
         ensures none { IfNone result (IsNoCommand (map string_bytes words.now)) }
@@ -71,10 +74,13 @@ impl Command {
         if are_texts(words, &["print"]) {
             return Some(Command::Print);
         }
-        if are_texts(words, &["run", "1"]) {
-            return Some(Command::Run(1));
+        if are_texts(words, &["exec"]) {
+            return Some(Command::Exec);
         }
-        let workers = Command::workers_placed(words)?;
+        if let Some(workers) = workers_after(words, "run") {
+            return Some(Command::Run(workers));
+        }
+        let workers = workers_after(words, "place")?;
         Some(Command::Place(workers))
     }
 }

@@ -151,7 +151,7 @@ impl Flat {
     }
 
     /// The row of the node with this number.
-    pub(crate) fn row(&self, number: u32) -> NodeRow
+    pub fn row(&self, number: u32) -> NodeRow
         requires { number < length (nodes self.now.model) }
         ensures { IsNodeRow self.now.model number result }
     {
@@ -187,7 +187,7 @@ impl Flat {
     }
 
     /// Where the leaf with this number stands.
-    pub(crate) fn leaf_spot(&self, number: u32) -> LeafSpot
+    pub fn leaf_spot(&self, number: u32) -> LeafSpot
         requires { number < length (leaves self.now.model) }
         ensures { IsLeafSpot self.now.model number result }
     {

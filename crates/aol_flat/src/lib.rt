@@ -43,6 +43,7 @@ pub use laws::{
 };
 pub use leaf::{Leaf, LeafKind};
 pub use leaf_cursor::{LeafReads, LeafWrites};
+pub use nodes::{LeafSpot, NodeRow};
 pub use refused::FlatRefused;
 pub use shared::types_are_shared;
 pub use view::{End, Read, Reader, Writer};

@@ -1,13 +1,14 @@
 -- Where instances have levels, a settled memory exists: each cell by the cells of lower levels.
-use Rattle.std.proofs.Common.{◌≡◌, ℕ, zero, suc, ◌+◌, ◌<◌, List, [], ◌∷◌, map, Some, None, Option, sym, ◌∙◌, ap, refl, arith, ◌⊎◌, inl, inr}
+use Rattle.std.proofs.Common.{◌≡◌, ℕ, zero, suc, ◌+◌, ◌<◌, List, [], ◌∷◌, length, map, Some, None, Option, sym, ◌∙◌, ap, refl, arith, ◌⊎◌, inl, inr}
 use Rattle.std.specs.Prelude.{slice_get, unwrap_or}
+use Rattle.std.proofs.lemmas.List.{length-map}
 use Rattle.aol_expr_tree.specs.declared.value.Val.{Val}
 use Rattle.aol_flat.specs.Net.{Net, Memory, read_value, reads_at, IsSettled, IsWritten}
 use Rattle.aol_flat.specs.declared.view.Read.{Read}
 use Rattle.aol_flat.specs.declared.view.Read.TheVariants.{Cell, Const}
 use Rattle.aol_runner.specs.Schedule.{AreLevelled, HasWriters, SettledMemoryExists}
 
-same_reads : (a b : Memory) (rs : List Read) → ((n c : ℕ) → slice_get rs n ≡ Some (Cell c) → a c ≡ b c) → map (read_value a) rs ≡ map (read_value b) rs
+pub same_reads : (a b : Memory) (rs : List Read) → ((n c : ℕ) → slice_get rs n ≡ Some (Cell c) → a c ≡ b c) → map (read_value a) rs ≡ map (read_value b) rs
 same_reads a b [] h = refl
 same_reads a b (Cell c ∷ rs) h =
     let first : a c ≡ b c = h 0 c refl in
@@ -91,7 +92,8 @@ module _ (net : Net) (writer : ℕ → Option (ℕ × ℕ)) (levels : List ℕ) 
       let l = levelled.level j k c h in
       let same : map (read_value (value count)) (reads_at net j) ≡ map (read_value (value (suc count))) (reads_at net j) =
       same_reads (value count) (value (suc count)) (reads_at net j) (λ i d r. stable count d (reads_below count j k c l.0 d i w l.1 (omega (arith, l.2)) r)) in
-      let x = writers.gives c j k (map (read_value (value count)) (reads_at net j)) h in
+      let many : length (map (read_value (value count)) (reads_at net j)) ≡ length (reads_at net j) = length-map (reads_at net j) (read_value (value count)) in
+      let x = writers.gives c j k (map (read_value (value count)) (reads_at net j)) many h in
       let gave : value (suc count) c ≡ x.0 = given_at count c j k w ∙ unwrapped (slice_get (net.gives j (map (read_value (value count)) (reads_at net j))) k) x.0 (opening c) x.1 in
       ap (λ xs. slice_get (net.gives j xs) k) (sym same) ∙ (x.1 ∙ ap (λ a. Some a) (sym gave))
 

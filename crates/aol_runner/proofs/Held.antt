@@ -36,11 +36,11 @@ use Rattle.aol_runner.proofs.Aligned.{some_injective, get_there, zip_at, among_o
 pub kept_injective : (a b : Element) → ◌≡◌ {A = Home} (Kept a) (Kept b) → a ≡ b
 kept_injective a b h = cc
 
-constant_injective : (a b : ℤ) → ◌≡◌ {A = Home} (Constant a) (Constant b) → a ≡ b
+pub constant_injective : (a b : ℤ) → ◌≡◌ {A = Home} (Constant a) (Constant b) → a ≡ b
 constant_injective a b h = cc
 
 -- a home isn't both stored and a number
-two_homes : (h : Home) (e : Element) (n : ℤ) → h ≡ Kept e → h ≡ Constant n → ⊥
+pub two_homes : (h : Home) (e : Element) (n : ℤ) → h ≡ Kept e → h ≡ Constant n → ⊥
 two_homes h e n a b = let c : Kept e ≡ Constant n = sym a ∙ b in cc
 
 pub input_home : (f : Laid) (e : Element) → IsInput f.model e → home_of f.model e ≡ origin_home f.model (origin f.model e.place e.port e.index)

@@ -30,7 +30,7 @@ use Rattle.aol_runner.proofs.Held.{kept_injective, input_home}
 
 -- ---- points by rank
 
-numbers_get : (a n i : ℕ) → i < n → slice_get (numbers_from a n) i ≡ Some (a + i)
+pub numbers_get : (a n i : ℕ) → i < n → slice_get (numbers_from a n) i ≡ Some (a + i)
 numbers_get a zero i h = absurd (omega (arith, h))
 numbers_get a (suc n) zero h = let e : a ≡ a + 0 = omega arith in ap Some e
 numbers_get a (suc n) (suc i) h = let e : (a + 1) + i ≡ a + suc i = omega arith in numbers_get (a + 1) n i (omega (arith, h)) ∙ ap Some e
@@ -44,7 +44,7 @@ point_get shape x inside =
     get_map (point_at shape) (numbers_below (size shape)) (rank shape x) (0 + rank shape x) (numbers_get 0 (size shape) (rank shape x) (rank-lt-size shape x inside))
     ∙ ap Some (let e : 0 + rank shape x ≡ rank shape x = omega arith in ap (point_at shape) e ∙ point_at-rank shape x inside)
 
-points_many : (shape : List ℕ) → length (points shape) ≡ size shape
+pub points_many : (shape : List ℕ) → length (points shape) ≡ size shape
 points_many shape = length-map (numbers_below (size shape)) (point_at shape) ∙ numbers_many 0 (size shape)
 
 -- ---- the arrays of some ports

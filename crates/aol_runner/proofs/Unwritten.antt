@@ -43,7 +43,7 @@ use Rattle.aol_runner.proofs.Aligned.{some_injective, get_there, among_one}
 use Rattle.aol_runner.proofs.Held.{kept_injective, input_home}
 
 -- what is related to an item of the second list at a place
-zip_back : {X Y : Type 0} (R : X → Y → Type 0) (xs : List X) (ys : List Y) (k : ℕ) (y : Y) → AllZip R xs ys → slice_get ys k ≡ Some y → (x : X) × (slice_get xs k ≡ Some x) × R x y
+pub zip_back : {X Y : Type 0} (R : X → Y → Type 0) (xs : List X) (ys : List Y) (k : ℕ) (y : Y) → AllZip R xs ys → slice_get ys k ≡ Some y → (x : X) × (slice_get xs k ≡ Some x) × R x y
 zip_back R [] [] k y z at = cc
 zip_back R [] (b ∷ ys) k y z at = absurd z
 zip_back R (a ∷ xs) [] k y z at = absurd z

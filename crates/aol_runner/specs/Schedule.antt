@@ -98,11 +98,11 @@ EveryScheduleSettles =
 
 -- ---- a settled memory exists
 
--- the one instance and place that writes a cell, if there is one; and an instance gives a value for each cell that it writes
+-- the one instance and place that writes a cell, if there is one; and for as many values as it reads an instance gives one for each cell that it writes
 pub record HasWriters (net : Net) (writer : ℕ → Option (ℕ × ℕ)) : Type 0 where
   pub writes : (c j k : ℕ) → writer c ≡ Some (j, k) → slice_get (writes_at net j) k ≡ Some c
   pub one : (c j k : ℕ) → slice_get (writes_at net j) k ≡ Some c → writer c ≡ Some (j, k)
-  pub gives : (c j k : ℕ) (xs : List Val) → slice_get (writes_at net j) k ≡ Some c → (x : Val) × (slice_get (net.gives j xs) k ≡ Some x)
+  pub gives : (c j k : ℕ) (xs : List Val) → length xs ≡ length (reads_at net j) → slice_get (writes_at net j) k ≡ Some c → (x : Val) × (slice_get (net.gives j xs) k ≡ Some x)
 
 -- the memory is settled, and what nothing writes is as it was
 pub record SettledOver (net : Net) (opening mem : Memory) : Type 0 where

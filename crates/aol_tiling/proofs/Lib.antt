@@ -10,3 +10,5 @@ pub mod NewLeaves
 pub mod Told
 mod Sample
 mod Examples
+pub mod Origins
+pub mod MapTold

@@ -16,6 +16,7 @@ use Rattle.aol_model_types.specs.declared.task.Task.{Task}
 use Rattle.aol_model_types.specs.declared.task.Task.TheVariants as tasks
 use Rattle.aol_model_types.specs.Places.{to_key}
 use Rattle.aol_model_types.specs.Rules.{ShapesAgree, task_name, task_named, is_earlier_task, is_new_part, part_checks}
+use Rattle.aol_flat.specs.Accept.{IsSound}
 use Rattle.aol_flat.specs.Instance.{Leaf, Computes, Copies, leaves_below, reshape_leaf}
 use Rattle.aol_flat.specs.Node.{ToPart, ToBody, Node, space_around, node_task, task_under}
 use Rattle.aol_flat.specs.Numbered.{number_named, inner_names, StandOnEarlier}
@@ -137,7 +138,7 @@ module _ (m : Model) (agree : ShapesAgree m) (t : Repeated) (name_is : task_name
       (d' : ℕ) (n : List ℕ) (node : Node) (u : Task) → task_named m.tasks n ≡ Some u → Enough m.tasks n d → Enough next.tasks n d' → node_task m node ≡ Some u
       → leaves_below d' next (task_named next.tasks n) (moved node) ≡ map leaf (leaves_below d m (task_named m.tasks n) node)
 
-  apart_from_new : (n : List ℕ) (u : Task) → task_named m.tasks n ≡ Some u → same new n ≡ false
+  pub apart_from_new : (n : List ℕ) (u : Task) → task_named m.tasks n ≡ Some u → same new n ≡ false
   apart_from_new n u h = go (same new n) refl
     where
       go : (b : Bool) → same new n ≡ b → same new n ≡ false
@@ -147,12 +148,12 @@ module _ (m : Model) (agree : ShapesAgree m) (t : Repeated) (name_is : task_name
           let clash : true ≡ false = sym (ap is_some (ap (task_named m.tasks) equal ∙ h)) ∙ free in
           absurd (cc)
 
-  in_next : (n : List ℕ) (u : Task) → task_named m.tasks n ≡ Some u → task_named next.tasks n ≡ Some (cond (same n t.name) (tasks.Repeated all) u)
+  pub in_next : (n : List ℕ) (u : Task) → task_named m.tasks n ≡ Some u → task_named next.tasks n ≡ Some (cond (same n t.name) (tasks.Repeated all) u)
   in_next n u h =
       ap (λ ts. task_named ts n) next_tasks
       ∙ still_found t.name new (tasks.Repeated one) (tasks.Repeated all) one_named all_named m.tasks n u (apart_from_new n u h) h
 
-  one_in_next : task_named next.tasks new ≡ Some (tasks.Repeated one)
+  pub one_in_next : task_named next.tasks new ≡ Some (tasks.Repeated one)
   one_in_next = ap (λ ts. task_named ts new) next_tasks ∙ new_found t.name new (tasks.Repeated one) (tasks.Repeated all) one_named all_named m.tasks (tasks.Repeated t) name_is free
 
   -- ---- reshapes
@@ -325,12 +326,17 @@ enough_whole ts n u h =
     let j = numbered_there ts n u h in
     record { number = j.0; named = j.1; under = (found ts n j.0 j.1).within }
 
-pub tiled_leaves : TiledLeaves
-tiled_leaves m t outer block sound next_sound named =
+-- no task has the name of the new one
+pub free_new : (m : Model) (t : Repeated) → IsSound m → is_some (task_named m.tasks (block_name m t)) ≡ false
+free_new m t sound =
     let none : 0 < 2 ^ 32 = omega arith in
     let free_names : is_taken (map task_name m.tasks) (block_name m t) ≡ false =
     ap (λ ns. is_taken ns (block_name m t)) (sym (append-nil (map task_name m.tasks))) ∙ new_is_free m [] t.name sound none in
-    let free : is_some (task_named m.tasks (block_name m t)) ≡ false = not_among m.tasks (block_name m t) free_names in
+    not_among m.tasks (block_name m t) free_names
+
+pub tiled_leaves : TiledLeaves
+tiled_leaves m t outer block sound next_sound named =
+    let free : is_some (task_named m.tasks (block_name m t)) ≡ false = free_new m t sound in
     let one : Repeated = block_task m t block (block_name m t) in
     let all : Repeated = blocks_task t outer block (block_name m t) in
     let next : Model = tiled_model m t outer block in

@@ -1,11 +1,11 @@
 //! Tiling: a repetition becomes a repetition of blocks, each a repetition of the old inner task.
 //!
-//! Read `specs/Tile.antt` first, then `tiled_flat`. `proofs/Sound.antt` shows that the tiled model of a sound one is
+//! Read `specs/Tile.antt` first, then `tile`. `proofs/Sound.antt` shows that the tiled model of a sound one is
 //! sound, and `proofs/Examples.antt` has worked examples.
 //!
 //! ```text
 //! // ten repetitions in five blocks of two
-//! tiled_flat(alloc, &flat, &name, &five, &two)
+//! tile(alloc, &flat, &name, &five, &two)
 //! ```
 #![tactic(auto)]
 
@@ -15,4 +15,4 @@ mod step;
 
 pub use laws::{tiled_keeps_tasks, tiled_leaves};
 pub use model::tiled;
-pub use step::tiled_flat;
+pub use step::{tile, tiled_flat};

@@ -1,4 +1,4 @@
-use Rattle.std.proofs.Common.{◌++◌, ◌-◌, ap, sym, ◌∙◌}
+use Rattle.std.proofs.Common.{◌++◌, ◌-◌, ap, sym, ◌∙◌, arith}
 use Rattle.aol_shape.specs.Shape.{point_at, size}
 use Rattle.aol_vsl.specs.Text.{shape_text}
 use Rattle.aol_cli.proofs.Instances.{row_told}
@@ -7,8 +7,8 @@ use Rattle.aol_cli.proofs.instance.instance_name.Goals as goal
 pub push_point-requires-clause-points : goal.push_point-requires-clause-points
 push_point-requires-clause-points c = c.leaf-leaf.ensures.count ∙ ap size (sym (c.as_slice.ensures ∙ c.leaf-leaf.ensures.space))
 
-pub push_point-requires-clause-within : goal.push_point-requires-clause-within
-push_point-requires-clause-within c = (row_told c.args.flat.now.model c.args.number _ c.leaf-leaf.result.now c.leaf_with.ensures c.leaf-leaf.ensures).within
+pub push_point-requires-clause-some : goal.push_point-requires-clause-some
+push_point-requires-clause-some c = omega (arith, (row_told c.args.flat.now.model c.args.number _ c.leaf-leaf.result.now c.leaf_with.ensures c.leaf-leaf.ensures).within)
 
 pub returns : goal.returns
 returns c =

@@ -1,15 +1,26 @@
-use Rattle.std.proofs.Common.{◌++◌, string_bytes, ap, ◌∙◌, arith}
-use Rattle.aol_flat.proofs.Totals.{length-instances}
-use Rattle.aol_cli.proofs.Placements.{line_more, row_within}
+use Rattle.std.proofs.Common.{sym, subst, arith}
+use Rattle.aol_assign.proofs.LeafNumbers.{numbers_small}
+use Rattle.aol_cli.specs.declared.status.StatusKind.TheVariants.{Done}
+use Rattle.aol_cli.specs.AcceptedAnswer.{PlaceAnswers, IsPlacedFor, unplaced, placed}
+use Rattle.aol_cli.specs.Placed.{place_lines}
+use Rattle.aol_cli.specs.Reply.{reply}
 use Rattle.aol_cli.proofs.place.place_reply.Goals as goal
+use Rattle.aol_cli.proofs.Replies.{made_of}
 
-pub push_workers-requires-clause-within : goal.push_workers-requires-clause-within
-push_workers-requires-clause-within c = omega (arith, row_within c.args.flat.now.model c.loop-number.number c.leaf-leaf.result.now c.leaf-leaf.ensures, c.requires.placed, length-instances c.args.flat.now.model)
+pub lines_of-requires-clause-placed : goal.lines_of-requires-clause-placed
+lines_of-requires-clause-placed c = (subst (IsPlacedFor (record { model = c.args.flat.now.model; job = c.args.job.now }) c.args.workers) c.in-Ok.is c.in_ok-outcome.ensures).3.many
 
-pub push_workers-requires-clause-few : goal.push_workers-requires-clause-few
-push_workers-requires-clause-few c = omega (arith, row_within c.args.flat.now.model c.loop-number.number c.leaf-leaf.result.now c.leaf-leaf.ensures, c.requires.placed, c.requires.few, length-instances c.args.flat.now.model)
+pub lines_of-requires-clause-few : goal.lines_of-requires-clause-few
+lines_of-requires-clause-few c =
+    let had = subst (IsPlacedFor (record { model = c.args.flat.now.model; job = c.args.job.now }) c.args.workers) c.in-Ok.is c.in_ok-outcome.ensures in
+    omega (arith, had.3.many, numbers_small c.args.flat.now.model c.requires.kept.sound c.requires.bounded)
 
-pub loop-number-preserved : goal.loop-number-preserved
-loop-number-preserved c =
-    line_more c.args.flat.now.model c.args.placed.now.of_instance c.loop-number.number c.leaf-leaf.result.now (string_bytes c.loop-number.text) (string_bytes c.push_text.new.text) (string_bytes c.push_workers.new.text)
-    (string_bytes c.push_text-in-loop-number.new.text) c.leaf-leaf.ensures c.loop-number.invariant (c.in_ok-push_text.ensures ∙ ap (λ p. string_bytes c.loop-number.text ++ p) c.as_str.ensures) c.in_ok-push_workers.ensures c.in_ok-push_text-2.ensures
+pub returns-in-Ok : goal.returns-in-Ok
+returns-in-Ok c =
+    let m = c.args.flat.now.model in
+    let had = subst (IsPlacedFor (record { model = m; job = c.args.job.now }) c.args.workers) c.in-Ok.is c.in_ok-outcome.ensures in
+    made_of (PlaceAnswers (record { model = m; job = c.args.job.now }) c.args.workers) c.lines_of.result _ c.lines_of.ensures
+    (subst (λ ws. PlaceAnswers (record { model = m; job = c.args.job.now }) c.args.workers (reply Done (place_lines m ws))) (sym had.2) (placed had.0))
+
+pub returns-in-Err : goal.returns-in-Err
+returns-in-Err c = unplaced _ (subst (IsPlacedFor (record { model = c.args.flat.now.model; job = c.args.job.now }) c.args.workers) c.in-Err.is c.in_ok-outcome.ensures)

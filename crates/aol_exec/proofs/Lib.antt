@@ -1,0 +1,4 @@
+pub mod Walks
+pub mod FirstLines
+pub mod OneJob
+pub mod EachTree

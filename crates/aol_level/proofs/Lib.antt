@@ -1,0 +1,14 @@
+pub mod Putting
+pub mod Numbers
+pub mod Lists
+pub mod Claimed
+pub mod Making
+pub mod Found
+pub mod Cursored
+pub mod Working
+pub mod Matched
+pub mod Nets
+pub mod Running
+pub mod Rounds
+pub mod Joined
+pub mod Crossing

@@ -1,0 +1,5 @@
+pub mod Puts
+pub mod Round
+pub mod Claims
+pub mod Made
+pub mod Parts

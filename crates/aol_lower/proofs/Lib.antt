@@ -1,0 +1,14 @@
+pub mod Arithmetic
+pub mod Elements
+pub mod Expressions
+pub mod Formed
+pub mod Loops
+pub mod Made
+pub mod Marks
+pub mod Operations
+pub mod PortTests
+pub mod PortsFormed
+pub mod Rooms
+pub mod Series
+pub mod Spelled
+pub mod Steps

@@ -148,7 +148,6 @@ module _ (tables : List (List ℤ)) (reads : Reads) (g : Given) (shapes : AreSha
       (element_leaves tables reads g.nums h.fits d (omega (arith, h.above)) l.end i.are_read zs l.holds.0 (rw (same, l.keeps.size) inside) l.holds.1 g.ins p shapes h.whole))
   read_leaves p body d count s (Err kind) h inside l = then_faults tables body (element_in reads (pos (start_of g.ins p)) d count (shape_of g.ins p)) d s l.end kind l.runs l.keeps l.holds
 
-
   -- by the number of a condition
   chosen : (z : ℤ) (d : ℕ) (t : State) (first second : List Stmt) (p q : Result ℤ Kind) → slice_get t.vars d ≡ Some z → Leaves tables first d t p → Leaves tables second d t q
       → Leaves tables (either (variable d) first second) d t (if is_zero z then q else p)
@@ -172,36 +171,36 @@ module _ (tables : List (List ℤ)) (reads : Reads) (g : Given) (shapes : AreSha
         follow_leaves tables (lowered setting (placed bs) d l) (then_do (lowered setting (placed bs) (d + 1) r) (operation op d (d + 1))) d d s (value g (numbered bs) l)
         (λ x. value g (numbered bs) r >>= (λ y. applied op x y)) (omega arith) (expr_leaves l small.0 bs d s h b (omega (arith, inside)))
         (λ x t e k there.
-            let again = given_kept tables reads g d (d + 1) s t (omega arith) k there.2 h in
-            let bound = bound_kept bs d (d + 1) s t (omega arith) k b in
-            let some = some_room r in
-            follow_leaves tables (lowered setting (placed bs) (d + 1) r) (operation op d (d + 1)) d (d + 1) t (value g (numbered bs) r) (λ y. applied op x y) (omega arith)
-            (expr_leaves r small.1 bs (d + 1) t again bound (rw k.size (omega (arith, inside))))
-            (λ y u e2 k2 other. operation_leaves tables d (d + 1) u op x y (record {
-              some = omega (arith, h.above);
-              inside = rw (k2.size, k.size) (omega (arith, inside, some));
-              left = k2.below d (omega (arith, h.above)) (omega arith) ∙ there.0;
-              right = other.0;
-              left_fits = there.1;
-              right_fits = other.1;
-              sound = other.2;
-            })))
+        let again = given_kept tables reads g d (d + 1) s t (omega arith) k there.2 h in
+        let bound = bound_kept bs d (d + 1) s t (omega arith) k b in
+        let some = some_room r in
+        follow_leaves tables (lowered setting (placed bs) (d + 1) r) (operation op d (d + 1)) d (d + 1) t (value g (numbered bs) r) (λ y. applied op x y) (omega arith)
+        (expr_leaves r small.1 bs (d + 1) t again bound (rw k.size (omega (arith, inside))))
+        (λ y u e2 k2 other. operation_leaves tables d (d + 1) u op x y (record {
+          some = omega (arith, h.above);
+          inside = rw (k2.size, k.size) (omega (arith, inside, some));
+          left = k2.below d (omega (arith, h.above)) (omega arith) ∙ there.0;
+          right = other.0;
+          left_fits = there.1;
+          right_fits = other.1;
+          sound = other.2;
+        })))
     expr_leaves (if_else q l r) small bs d s h b inside =
         follow_leaves tables (lowered setting (placed bs) d q) (either (variable d) (lowered setting (placed bs) d l) (lowered setting (placed bs) d r)) d d s (value g (numbered bs) q)
         (λ z. if is_zero z then value g (numbered bs) r else value g (numbered bs) l) (omega arith) (expr_leaves q small.0 bs d s h b (omega (arith, inside)))
         (λ z t e k there.
-            let again = given_kept tables reads g d d s t (omega arith) k there.2 h in
-            let bound = bound_kept bs d d s t (omega arith) k b in
-            chosen z d t (lowered setting (placed bs) d l) (lowered setting (placed bs) d r) (value g (numbered bs) l) (value g (numbered bs) r) there.0
-            (expr_leaves l small.1 bs d t again bound (rw k.size (omega (arith, inside))))
-            (expr_leaves r small.2 bs d t again bound (rw k.size (omega (arith, inside)))))
+        let again = given_kept tables reads g d d s t (omega arith) k there.2 h in
+        let bound = bound_kept bs d d s t (omega arith) k b in
+        chosen z d t (lowered setting (placed bs) d l) (lowered setting (placed bs) d r) (value g (numbered bs) l) (value g (numbered bs) r) there.0
+        (expr_leaves l small.1 bs d t again bound (rw k.size (omega (arith, inside))))
+        (expr_leaves r small.2 bs d t again bound (rw k.size (omega (arith, inside)))))
     expr_leaves (sum x n e) small bs d s h b inside =
         let some = some_room e in
         series_leaves tables d n (lowered setting ((x, d + 1) ∷ placed bs) (d + 2) e) (λ k. value g ((x, k) ∷ numbered bs) e) (omega (arith, h.above)) s (omega (arith, inside, some)) h.sound
         (λ i t below k sound is.
-            let own : Binding = record { name = x; at = d + 1; number = pos i } in
-            let kept : IsBound (d + 2) t own = record { some = omega arith; below = omega arith; there = is; fits = lt-ltb i (2 ^ 63) (omega (arith, below, small.0)) } in
-            expr_leaves e small.1 (own ∷ bs) (d + 2) t (given_kept tables reads g d (d + 2) s t (omega arith) k sound h) (kept, bound_kept bs d (d + 2) s t (omega arith) k b) (rw k.size (omega (arith, inside))))
+        let own : Binding = record { name = x; at = d + 1; number = pos i } in
+        let kept : IsBound (d + 2) t own = record { some = omega arith; below = omega arith; there = is; fits = lt-ltb i (2 ^ 63) (omega (arith, below, small.0)) } in
+        expr_leaves e small.1 (own ∷ bs) (d + 2) t (given_kept tables reads g d (d + 2) s t (omega arith) k sound h) (kept, bound_kept bs d (d + 2) s t (omega arith) k b) (rw k.size (omega (arith, inside))))
 
     exprs_leave : (ts : Trees) → AreSmall ts → (bs : List Binding) (d : ℕ) (s : State) → IsGiven tables reads g d s → AreBound bs d s → d + room_of ts ≤ length s.vars
         → AllLeave tables (all_lowered setting (placed bs) d ts) d (tree_count ts) s (values g (numbered bs) ts)

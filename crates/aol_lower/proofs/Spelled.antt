@@ -25,9 +25,11 @@ mutual
   spelled_small around (bin op l r) some h =
       (spelled_small around l some (and_left (is_spelled around l) (is_spelled around r) h), spelled_small around r some (and_right (is_spelled around l) (is_spelled around r) h))
   spelled_small around (if_else c a b) some h =
-      let first = and_left (is_spelled around c && is_spelled around a) (is_spelled around b) h in
-      (spelled_small around c some (and_left (is_spelled around c) (is_spelled around a) first), spelled_small around a some (and_right (is_spelled around c) (is_spelled around a) first),
-      spelled_small around b some (and_right (is_spelled around c && is_spelled around a) (is_spelled around b) h))
+      let first = and_left (is_spelled around c && is_spelled around a) (is_spelled around b) h in (
+        spelled_small around c some (and_left (is_spelled around c) (is_spelled around a) first),
+        spelled_small around a some (and_right (is_spelled around c) (is_spelled around a) first),
+        spelled_small around b some (and_right (is_spelled around c && is_spelled around a) (is_spelled around b) h),
+      )
   spelled_small around (sum x n e) some h =
       let first = and_left (is_name x && is_bound around n) (is_spelled (around * n) e) h in
       let bound = bound_small around n some (and_right (is_name x) (is_bound around n) first) in

@@ -80,16 +80,16 @@ times_below x y = either (between Equal (variable y) nought)
 abbrev pub times : ℕ → ℕ → List Stmt
 times x y = either (between Below nought (variable y)) (times_above x y)
     (either (between Below nought (variable x))
-        (attempt (at_most (between Over least (variable x)) (variable y)) Times x y)
-        (times_below x y))
+    (attempt (at_most (between Over least (variable x)) (variable y)) Times x y)
+    (times_below x y))
 
 -- a quotient or a remainder
 abbrev pub divided : COp → ℕ → ℕ → List Stmt
 divided op x y = either (between Equal (variable y) nought)
     (fail Divide ∷ [])
     (either (between Equal (variable y) (number (negsuc 0)))
-        (attempt (between Below least (variable x)) op x y)
-        (assign op x y))
+    (attempt (between Below least (variable x)) op x y)
+    (assign op x y))
 
 abbrev pub operation : ExprOp → ℕ → ℕ → List Stmt
 operation Add x y = plus x y

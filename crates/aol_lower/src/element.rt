@@ -37,7 +37,9 @@ fn start_named(ins: &[Port], name: &Name) -> Result<i64, NoMemory>
         Some((port, _)) if are_same(&port.name, name) => Ok(0),
         Some((port, others)) => {
             let start = start_named(others, name)?;
-            i64::from(port.shape.size()).checked_add(start).ok_or(NoMemory)
+            i64::from(port.shape.size())
+                .checked_add(start)
+                .ok_or(NoMemory)
         }
     }
 }
@@ -55,7 +57,12 @@ pub(crate) struct Place {
 pub(crate) fn entry_expr(alloc: Global, place: Place) -> Result<CExpr, NoMemory>
     ensures { IfOk result (λ e. expr_of e ≡ entry_at place.reads place.start place.rank) }
 {
-    let behind = between(alloc, COp::Add, CExpr::Num(place.start), CExpr::Var(place.rank))?;
+    let behind = between(
+        alloc,
+        COp::Add,
+        CExpr::Num(place.start),
+        CExpr::Var(place.rank),
+    )?;
     let index = between(alloc, COp::Add, CExpr::Var(1), behind)?;
     table_entry(alloc, place.reads.entries, index)
 }

@@ -201,7 +201,14 @@ fn lower_sum<'n>(
     ensures { OnOk result (trees_of out.new ≡ trees_of out.old ++ lowered (setting_of shared.now) (scope_of scope.now) d (sum name.now terms (tree_of term.now))) }
 {
     let mut body = Items::new(alloc);
-    lower_into(alloc, term, shared, &Scope::Bound(name, d + 1, scope), d + 2, &mut body)?;
+    lower_into(
+        alloc,
+        term,
+        shared,
+        &Scope::Bound(name, d + 1, scope),
+        d + 2,
+        &mut body,
+    )?;
     push_series(alloc, out, d, terms, body)
 }
 

@@ -7,8 +7,8 @@ ghost use Rattle.aol_csyn.specs.Tree.{bin, num, set_var, var};
 ghost use Rattle.aol_lower.specs.Lowered.{assign, at_most, attempt, divided, either, minus, operation, plus, times, times_above, times_below};
 ghost use Rattle.aol_lower.specs.Stored.{comparison_of, trees_of};
 
-use crate::parts::{between, either, fail, set};
 use crate::comparison::{Comparison, Side, at_most, comparison_expr};
+use crate::parts::{between, either, fail, set};
 use aol_csyn::{CExpr, COp, CStmt};
 use aol_expr_tree::{ExprOp, Kind};
 use aol_shape::{Items, NoMemory};
@@ -43,7 +43,13 @@ fn take(alloc: Global, x: u32, y: u32) -> Result<Items<CStmt>, NoMemory>
 }
 
 /// The same as `assign` where the test holds, else the fault `Overflow`.
-fn attempt(alloc: Global, tested: Comparison, op: COp, x: u32, y: u32) -> Result<Items<CStmt>, NoMemory>
+fn attempt(
+    alloc: Global,
+    tested: Comparison,
+    op: COp,
+    x: u32,
+    y: u32,
+) -> Result<Items<CStmt>, NoMemory>
     ensures { IfOk result (λ body. trees_of body ≡ attempt (comparison_of tested) op x y) }
 {
     let first = assign(alloc, op, x, y)?;
@@ -161,12 +167,7 @@ fn greater(alloc: Global, x: u32, y: u32) -> Result<Items<CStmt>, NoMemory>
 }
 
 /// Variable `x` takes the result of an operator at the numbers in `x` and `y`, or there is its fault.
-pub(crate) fn operation(
-    alloc: Global,
-    op: ExprOp,
-    x: u32,
-    y: u32,
-) -> Result<Items<CStmt>, NoMemory>
+pub(crate) fn operation(alloc: Global, op: ExprOp, x: u32, y: u32) -> Result<Items<CStmt>, NoMemory>
     ensures { IfOk result (λ body. trees_of body ≡ operation op x y) }
 {
     match op {

@@ -20,12 +20,7 @@ fn boxed(alloc: Global, e: CExpr) -> Result<Box<CExpr>, NoMemory>
 }
 
 /// An operator between two expressions.
-pub(crate) fn between(
-    alloc: Global,
-    op: COp,
-    left: CExpr,
-    right: CExpr,
-) -> Result<CExpr, NoMemory>
+pub(crate) fn between(alloc: Global, op: COp, left: CExpr, right: CExpr) -> Result<CExpr, NoMemory>
     ensures { IfOk result (λ e. expr_of e ≡ bin op (expr_of left) (expr_of right)) }
 {
     Ok(CExpr::Bin(op, boxed(alloc, left)?, boxed(alloc, right)?))

@@ -20,9 +20,19 @@ fn within(alloc: Global, low: i64, high: i64, d: u32) -> Result<Items<CStmt>, No
     ensures { IfOk result (λ body. trees_of body ≡ within low high d) }
 {
     let above = fail(alloc, Kind::Range)?;
-    let upper = choose(alloc, at_most(Side::Variable(d), Side::Number(high)), Items::new(alloc), above)?;
+    let upper = choose(
+        alloc,
+        at_most(Side::Variable(d), Side::Number(high)),
+        Items::new(alloc),
+        above,
+    )?;
     let below = fail(alloc, Kind::Range)?;
-    choose(alloc, at_most(Side::Number(low), Side::Variable(d)), upper, below)
+    choose(
+        alloc,
+        at_most(Side::Number(low), Side::Variable(d)),
+        upper,
+        below,
+    )
 }
 
 /// Nothing where a variable holds a number of the width, else the fault `Range`.

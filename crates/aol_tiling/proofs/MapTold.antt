@@ -73,7 +73,7 @@ map_told m next name outer block old_of t sound next_sound h found are =
     let map_is = tiled_map m t outer block sound new_sound named types.space.entry rank in
     let alike_is = tiled_alike m t outer block sound new_sound named types.space.entry rank keeps in (
       subst (λ o. IsMapOf m next (tiled_from o m block next) old_of) (sym found)
-      (subst (λ n. IsMapOf m n (tile_origin m t block n) old_of) (sym is) (subst (IsMapOf m (tiled_model m t outer block) (tile_origin m t block (tiled_model m t outer block))) (sym are) map_is)),
+          (subst (λ n. IsMapOf m n (tile_origin m t block n) old_of) (sym is) (subst (IsMapOf m (tiled_model m t outer block) (tile_origin m t block (tiled_model m t outer block))) (sym are) map_is)),
       subst (λ n. AreAlike m n old_of) (sym is) (subst (AreAlike m (tiled_model m t outer block)) (sym are) alike_is),
     )
 

@@ -307,7 +307,7 @@ module _ (m : Model) (t : Repeated) (outer block : List ℕ) (sound : IsSound m)
       by_name false e rec =
           let there : node_task next (moved up) ≡ Some (tasks.Repeated r) = node_now up (tasks.Repeated r) spaces.0.1 ∙ ap (λ x. Some x) (now_other (tasks.Repeated r) e) in
           let keeps : (x y : List ℕ) → IsPointOf (space_around (moved up)) x → IsPointOf s y
-              → untile name t.space block (name_at next (place_on (moved up) x)) (IntoRepetition y) (old_of (place_on (moved up) x)) ≡ IntoRepetition y ∷ old_of (place_on (moved up) x) =
+          → untile name t.space block (name_at next (place_on (moved up) x)) (IntoRepetition y) (old_of (place_on (moved up) x)) ≡ IntoRepetition y ∷ old_of (place_on (moved up) x) =
           λ x y hx hy.
           untile_else name t.space block (name_at next (place_on (moved up) x)) (IntoRepetition y) (old_of (place_on (moved up) x))
           (ap (λ z. is_named z name) (name_there (moved up) (tasks.Repeated r) x new_spaces there hx) ∙ node_apart up (tasks.Repeated r) spaces.0.1) in
@@ -336,4 +336,4 @@ module _ (m : Model) (t : Repeated) (outer block : List ℕ) (sound : IsSound m)
       let names : option_map task_name (node_task next (moved l.node)) ≡ option_map task_name (node_task m l.node) =
       ap (option_map task_name) (node_now l.node u.0 u.1) ∙ (ap (λ n. Some n) (name_now u.0) ∙ sym (ap (option_map task_name) u.1)) in
       kind_kept m next t.space outer block entries rank (tile_origin m t block next) l (new_leaf m t.name outer block l) (entries_before m t.name l.node) (all_come l a)
-          (listed_form m l a) (listed_form next (new_leaf m t.name outer block l) new_among) refl names)
+      (listed_form m l a) (listed_form next (new_leaf m t.name outer block l) new_among) refl names)

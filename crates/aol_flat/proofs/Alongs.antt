@@ -1,7 +1,6 @@
 -- A cursor at an instance of its leaf.
-use Rattle.std.proofs.Common.{◌≡◌, ℕ, ◌+◌, ◌<◌, List, length, Option, Some, None, slice_get, sum, sym, ◌∙◌, ap, refl, arith, subst}
+use Rattle.std.proofs.Common.{◌≡◌, ℕ, ◌+◌, ◌<◌, List, Option, Some, None, slice_get, sum, sym, ◌∙◌, ap, refl, arith, subst}
 use Rattle.std.specs.List.{AllZip}
-use Rattle.std.proofs.lemmas.Option.{slice_get_within}
 use Rattle.aol_shape.specs.Shape.{IsPointOf, size, point_at}
 use Rattle.aol_shape.proofs.Points.{point_at-is}
 use Rattle.aol_model_types.specs.declared.document.Model.{Model}

@@ -1,19 +1,19 @@
 -- Ranks of points of joined shapes, and the addresses of tilers.
-use Rattle.std.proofs.Common.{◌≡◌, ℕ, zero, suc, ◌+◌, ◌-◌, ◌*◌, ◌<◌, ◌≤◌, true, ◌&&◌, ◌==◌, List, [], ◌∷◌, ◌++◌, length, take, drop, Some, slice_get, sym, ◌∙◌, ap, refl, arith, subst}
+use Rattle.std.proofs.Common.{◌≡◌, ℕ, ◌+◌, ◌*◌, ◌<◌, ◌&&◌, ◌==◌, List, [], ◌∷◌, ◌++◌, length, take, drop, Some, slice_get, sym, ◌∙◌, ap, arith}
 use Rattle.std.specs.List.{AllByRecursion}
 use Rattle.std.proofs.Math.Nat.{mul_assoc}
 use Rattle.std.proofs.Math.Seq.{take-append_seam, drop-append_seam}
 use Rattle.std.proofs.lemmas.Bool.{eqb-true}
-use Rattle.aol_shape.specs.Shape.{size, rank, point_at, IsPointOf, IsEntry, IsShape, max_points}
-use Rattle.aol_shape.proofs.Points.{rank-lt-size, point_at-rank, point_at-is, rank-point_at}
+use Rattle.aol_shape.specs.Shape.{size, rank, point_at, IsPointOf, IsEntry, IsShape}
+use Rattle.aol_shape.proofs.Points.{point_at-rank, point_at-is, rank-point_at}
 use Rattle.aol_shape.proofs.Sizes.{size_both}
 use Rattle.aol_tiler.specs.Makers.{IsIndex, IsAddressed}
 use Rattle.aol_tiler.specs.Matrices.{TilerOf}
-use Rattle.aol_tiler.specs.Tiler.{has_entries, is_over, fits, Fits, address, address_point}
+use Rattle.aol_tiler.specs.Tiler.{is_over, Fits, address, address_point}
 use Rattle.aol_expr_tree.specs.declared.port.Port.{Port}
 use Rattle.aol_model_types.specs.declared.document.Model.{Model}
 use Rattle.aol_flat.specs.Follow.{element_on}
-use Rattle.aol_flat.specs.Laid.{cell_at, homes_of}
+use Rattle.aol_flat.specs.Laid.{homes_of}
 use Rattle.aol_flat.specs.Node.{Node, space_around, place_on}
 use Rattle.aol_flat.specs.NodeTable.{BeginsAt}
 use Rattle.aol_flat.proofs.Inside.{point_length, point_both}

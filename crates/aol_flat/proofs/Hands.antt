@@ -1,6 +1,5 @@
 -- What hands an output of a node up is there.
-use Rattle.std.proofs.Common.{◌≡◌, ◌≢◌, ℕ, true, false, ◌&&◌, ◌<◌, List, [], ◌∷◌, length, Option, Some, None, is_some, is_none, option_map, unwrap_or, slice_get, find, sym, ◌∙◌, ap, refl, subst, ◌⊎◌, inl, inr}
-use Rattle.std.specs.List.{IsAmong}
+use Rattle.std.proofs.Common.{◌≡◌, ℕ, true, false, ◌&&◌, List, [], ◌∷◌, Option, Some, None, is_some, is_none, option_map, unwrap_or, slice_get, sym, ◌∙◌, ap, refl, subst, ◌⊎◌, inl, inr}
 use Rattle.aol_shape.specs.Lists.{same}
 use Rattle.aol_expr_tree.specs.declared.port.Port.{Port}
 use Rattle.aol_model_types.specs.declared.document.Model.{Model}
@@ -16,7 +15,7 @@ use Rattle.aol_flat.specs.Accept.{IsSound}
 use Rattle.aol_flat.specs.declared.feed.Hand.{Hand}
 use Rattle.aol_flat.specs.declared.feed.Hand.TheVariants as hands
 use Rattle.aol_flat.specs.Feed.{HandsToOutputs, TilesOutputs, PartHands, BodyHands, Hands, IsPartOf, IsBodyOf}
-use Rattle.aol_flat.specs.Home.{is_part_end, link_up, tiler_at}
+use Rattle.aol_flat.specs.Home.{is_part_end}
 use Rattle.aol_flat.specs.declared.nodes.NodeRow.{NodeRow}
 use Rattle.aol_flat.specs.Laid.{stores_output}
 use Rattle.aol_flat.specs.Node.{Branch, ToPart, ToBody, Node, task_under, node_task}
@@ -28,7 +27,7 @@ use Rattle.aol_flat.proofs.Names.{both-true, same-equal}
 use Rattle.aol_flat.proofs.NodeAt.{IsUnder, known}
 use Rattle.aol_flat.proofs.NodeTasks.{HasSpaces}
 use Rattle.aol_flat.proofs.Once.{found_among}
-use Rattle.aol_flat.proofs.Shapes.{input_own, output_own}
+use Rattle.aol_flat.proofs.Shapes.{output_own}
 use Rattle.aol_flat.proofs.Sites.{find-passes}
 use Rattle.aol_flat.proofs.TilerRules.{JoinsPorts, IsTiling, tiled, sides_of}
 

@@ -1,7 +1,6 @@
 -- What feeds an input of a node is there.
-use Rattle.std.proofs.Common.{◌≡◌, ◌≢◌, ℕ, zero, suc, ◌+◌, ◌≤◌, Bool, true, false, cond, ◌&&◌, ◌<◌, ◌^◌, List, [], ◌∷◌, length, Option, Some, None, is_some, is_none, option_map, unwrap_or, slice_get, find, sym, ◌∙◌, ap, refl, arith, subst, ◌⊎◌, inl, inr}
+use Rattle.std.proofs.Common.{◌≡◌, ℕ, true, false, ◌<◌, ◌^◌, List, [], ◌∷◌, length, Some, None, is_some, is_none, option_map, unwrap_or, slice_get, sym, ◌∙◌, ap, arith, ◌⊎◌, inl, inr}
 use Rattle.std.specs.Prelude.{option_and_then}
-use Rattle.std.specs.List.{IsAmong, count_by}
 use Rattle.std.proofs.lemmas.List.{length-map}
 use Rattle.std.proofs.lemmas.Option.{slice_get_within}
 use Rattle.aol_shape.specs.Lists.{same}
@@ -18,21 +17,20 @@ use Rattle.aol_model_types.specs.declared.task.Task.TheVariants as tasks
 use Rattle.aol_model_types.specs.declared.task.TilerOn.{TilerOn}
 use Rattle.aol_model_types.specs.Rules.{task_named, inputs_of, outputs_of, inputs_named, outputs_named, port_shape, from_shape}
 use Rattle.aol_model_types.specs.Types.{IsTask}
-use Rattle.aol_flat.specs.Accept.{IsSound}
 use Rattle.aol_flat.specs.declared.feed.Feed.{Feed}
 use Rattle.aol_flat.specs.declared.feed.Feed.TheVariants as feeds
 use Rattle.aol_flat.specs.declared.nodes.NodeRow.{NodeRow}
 use Rattle.aol_flat.specs.Feed.{TilesInputs, LinksOutputs, PartFeeds, BodyFeeds, Feeds, IsPartOf, IsBodyOf}
-use Rattle.aol_flat.specs.Home.{is_part_end, link_into_part, tiler_at, link_into_repetition}
+use Rattle.aol_flat.specs.Home.{is_part_end, link_into_part}
 use Rattle.aol_flat.specs.Laid.{stores_input}
-use Rattle.aol_flat.specs.Node.{Branch, ToPart, ToBody, Node, task_under, node_task}
+use Rattle.aol_flat.specs.Node.{ToPart, Node, task_under, node_task}
 use Rattle.aol_flat.specs.NodeTable.{IsNode, stores_at}
 use Rattle.aol_flat.specs.Tasks.{part_number}
 use Rattle.aol_flat.proofs.Among.{get_among}
 use Rattle.aol_flat.proofs.Checked.{IsTaskOf, of_compound, of_repeated, named_earlier, port_there, sides_apart}
 use Rattle.aol_flat.proofs.Hands.{to_part, inner_port, body_place}
 use Rattle.aol_flat.proofs.LinkRules.{linked, given_by_part, part_at}
-use Rattle.aol_flat.proofs.Names.{both-true, same-equal}
+use Rattle.aol_flat.proofs.Names.{same-equal}
 use Rattle.aol_flat.proofs.NodeAt.{IsUnder, known}
 use Rattle.aol_flat.proofs.Once.{found_among, not_counted, counted_found}
 use Rattle.aol_flat.proofs.Shapes.{input_own}

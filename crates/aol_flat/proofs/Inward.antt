@@ -1,10 +1,8 @@
 -- One step of following an input, by numbers.
-use Rattle.std.proofs.Common.{◌≡◌, ℕ, ◌+◌, ◌<◌, true, ◌&&◌, List, [], ◌∷◌, ◌++◌, length, Option, Some, None, is_some, is_none, option_map, unwrap_or, slice_get, find, sym, ◌∙◌, ap, refl, arith, subst}
-use Rattle.std.specs.List.{IsAmong}
+use Rattle.std.proofs.Common.{◌≡◌, ℕ, ◌<◌, true, List, ◌∷◌, ◌++◌, Option, Some, None, slice_get, sym, ◌∙◌, ap, refl, subst}
 use Rattle.aol_shape.specs.Lists.{same}
-use Rattle.aol_shape.specs.Shape.{IsPointOf, IsShape, size, point_at}
-use Rattle.aol_tiler.specs.Matrices.{TilerOf}
-use Rattle.aol_tiler.specs.Tiler.{fits, Fits, address, address_point}
+use Rattle.aol_shape.specs.Shape.{IsPointOf, size, point_at}
+use Rattle.aol_tiler.specs.Tiler.{fits, address, address_point}
 use Rattle.aol_expr_tree.specs.declared.port.Port.{Port}
 use Rattle.aol_model_types.specs.declared.document.Model.{Model}
 use Rattle.aol_model_types.specs.declared.task.Compound.{Compound}
@@ -13,12 +11,12 @@ use Rattle.aol_model_types.specs.declared.task.Repeated.{Repeated}
 use Rattle.aol_model_types.specs.declared.task.Task.{Task}
 use Rattle.aol_model_types.specs.declared.task.Task.TheVariants as tasks
 use Rattle.aol_model_types.specs.declared.task.TilerOn.{TilerOn}
-use Rattle.aol_model_types.specs.Rules.{task_named, inputs_of, outputs_of, inputs_named, outputs_named, port_shape, from_shape, to_shape, fits_in}
+use Rattle.aol_model_types.specs.Rules.{inputs_of, outputs_of, port_shape, from_shape, to_shape}
 use Rattle.aol_flat.specs.Accept.{IsSound}
 use Rattle.aol_flat.specs.Feed.{IsNumberOf, IsFedByOwn, IsFedByPart, IsFedByTiler, IsPartOf}
 use Rattle.aol_flat.specs.Follow.{IsElementOf, IsRepetition, IsBodyIndexed, LeadsTo, element_on}
 use Rattle.aol_flat.specs.declared.nodes.NodeRow.{NodeRow}
-use Rattle.aol_flat.specs.Home.{Kept, Output, handed, origin, origin_home, end_origin, home_of, is_part_end, link_into_part, tiler_at}
+use Rattle.aol_flat.specs.Home.{Kept, handed, origin, origin_home, end_origin, home_of, is_part_end, link_into_part, tiler_at}
 use Rattle.aol_flat.specs.Node.{Node, ToPart, ToBody, space_around, place_on, node_task}
 use Rattle.aol_flat.specs.NodeTable.{IsNode, IsNodeRow}
 use Rattle.aol_flat.specs.Tasks.{part_number}
@@ -29,7 +27,7 @@ use Rattle.aol_flat.proofs.HasShape.{HasShape, one_shape, moved_shape, equal_sha
 use Rattle.aol_flat.proofs.Homes.{input_home, output_home, part_step, tiled_step}
 use Rattle.aol_flat.proofs.Inside.{point_both, place_in_body}
 use Rattle.aol_flat.proofs.LinkSides.{link_there}
-use Rattle.aol_flat.proofs.Names.{both-true, same-equal}
+use Rattle.aol_flat.proofs.Names.{same-equal}
 use Rattle.aol_flat.proofs.NodeAt.{one_node, known, task_there_on, not_root, is_under, under_up}
 use Rattle.aol_flat.proofs.Once.{found_among}
 use Rattle.aol_flat.proofs.PortsOf.{own_input, whole_input, input_shape_on, input_side, output_shape_on, output_side}

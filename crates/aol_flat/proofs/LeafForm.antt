@@ -1,5 +1,5 @@
 -- What is known of the leaf with a number: its node, its space, and how many elements an instance of it has.
-use Rattle.std.proofs.Common.{◌≡◌, ℕ, zero, suc, ◌+◌, ◌*◌, ◌<◌, ◌≤◌, List, [], ◌∷◌, ◌++◌, length, map, flat_map, sum, sum_by, Option, Some, None, option_map, option_and_then, unwrap_or, slice_get, sym, ◌∙◌, ap, refl, arith, subst, ◌⊎◌, inl, inr}
+use Rattle.std.proofs.Common.{◌≡◌, ℕ, zero, suc, ◌≤◌, List, [], ◌∷◌, ◌++◌, length, map, flat_map, sum, Option, Some, None, option_map, option_and_then, unwrap_or, slice_get, sym, ◌∙◌, ap, refl, arith, subst, ◌⊎◌, inl, inr}
 use Rattle.std.specs.List.{IsAmong, enumerate_from}
 use Rattle.std.proofs.lemmas.List.Sums.{sum-map}
 use Rattle.aol_shape.specs.Shape.{IsPointOf, size}
@@ -14,10 +14,9 @@ use Rattle.aol_model_types.specs.declared.task.Task.TheVariants as tasks
 use Rattle.aol_model_types.specs.Rules.{task_named, inputs_of, outputs_of}
 use Rattle.aol_model_types.specs.Types.{IsTask, IsCopied}
 use Rattle.aol_flat.specs.Accept.{IsSound}
-use Rattle.aol_flat.specs.Instance.{Leaf, Computes, Copies, leaves_below, leaves, reshape_leaf, Instance, instance_on, port_sizes, read_sizes, written_sizes}
-use Rattle.aol_flat.specs.LeafCursor.{elements_at, task_elements, leaf_elements}
-use Rattle.aol_flat.specs.Node.{Branch, ToPart, ToBody, Node, space_around, place_on, task_under, node_task}
-use Rattle.aol_flat.specs.Place.{task_at}
+use Rattle.aol_flat.specs.Instance.{Leaf, Computes, Copies, leaves_below, leaves, reshape_leaf, instance_on, port_sizes, read_sizes, written_sizes}
+use Rattle.aol_flat.specs.LeafCursor.{task_elements, leaf_elements}
+use Rattle.aol_flat.specs.Node.{Branch, ToPart, ToBody, Node, space_around, task_under, node_task}
 use Rattle.aol_flat.specs.Tasks.{main_task}
 use Rattle.aol_flat.proofs.Among.{among_append, among_map, among_flat_map, get_among}
 use Rattle.aol_flat.proofs.Checked.{task_of}

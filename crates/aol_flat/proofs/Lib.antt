@@ -86,6 +86,7 @@ pub mod Unranking
 pub mod LeafForm
 pub mod LeafAt
 pub mod RunPoints
+pub mod Routes
 pub mod Alongs
 pub mod CopyLeaves
 pub mod CopyEnds

@@ -1,6 +1,6 @@
 -- Following an input of a repetition by a link between repetitions, by numbers.
-use Rattle.std.proofs.Common.{◌≡◌, ℕ, ℤ, ◌+◌, ◌<◌, Bool, true, false, ◌&&◌, ◌||◌, not, List, [], ◌∷◌, ◌++◌, length, Option, Some, None, is_some, option_map, unwrap_or, slice_get, find, sym, ◌∙◌, ap, refl, arith, subst}
-use Rattle.std.specs.List.{IsAmong, AllByRecursion, list_all}
+use Rattle.std.proofs.Common.{◌≡◌, ℕ, ℤ, ◌<◌, Bool, true, false, ◌||◌, not, List, [], ◌∷◌, ◌++◌, length, Option, Some, None, is_some, option_map, unwrap_or, slice_get, sym, ◌∙◌, ap, refl, subst}
+use Rattle.std.specs.List.{list_all}
 use Rattle.std.proofs.lemmas.Bool.{eqb-true}
 use Rattle.aol_shape.specs.Lists.{same}
 use Rattle.aol_shape.specs.Shape.{IsPointOf, size, point_at}
@@ -18,14 +18,12 @@ use Rattle.aol_model_types.specs.declared.task.Repeated.{Repeated}
 use Rattle.aol_model_types.specs.declared.task.Task.{Task}
 use Rattle.aol_model_types.specs.declared.task.Task.TheVariants as tasks
 use Rattle.aol_model_types.specs.Places.{to_key}
-use Rattle.aol_model_types.specs.Types.{IsRepeated}
-use Rattle.aol_model_types.specs.Rules.{task_named, inputs_of, outputs_of, inputs_named, outputs_named, port_shape, same_shapes, fits_in, interlink_checks, links_inner, spans_space, defaults_fit, fallback_fits, has_last_resort, has_dimensions, ends_with_always}
+use Rattle.aol_model_types.specs.Rules.{task_named, inputs_of, outputs_of, inputs_named, outputs_named, port_shape, fits_in, interlink_checks, links_inner, spans_space, defaults_fit, fallback_fits, has_last_resort, has_dimensions, ends_with_always}
 use Rattle.aol_flat.specs.Accept.{IsSound}
 use Rattle.aol_flat.specs.Feed.{IsNumberOf, IsFedByLink}
 use Rattle.aol_flat.specs.Follow.{IsElementOf, IsRepetition, LeadsTo, element_on}
-use Rattle.aol_flat.specs.Home.{Kept, Constant, Output, Stored, handed, origin, origin_home, home_of, tiler_at, link_into_repetition, default_choice, fallback_origin}
-use Rattle.aol_flat.specs.Node.{Node, ToPart, ToBody, space_around, place_on, node_task}
-use Rattle.aol_flat.specs.NodeTable.{IsNode}
+use Rattle.aol_flat.specs.Home.{Kept, Constant, handed, origin, origin_home, home_of, tiler_at, link_into_repetition, default_choice, fallback_origin}
+use Rattle.aol_flat.specs.Node.{ToBody, space_around, place_on, node_task}
 use Rattle.aol_flat.specs.Place.{Place, IntoRepetition, Element, task_at}
 use Rattle.aol_flat.proofs.Among.{get_among}
 use Rattle.aol_flat.proofs.Arrays.{address_back}
@@ -38,7 +36,7 @@ use Rattle.aol_flat.proofs.Homes.{input_home, output_home, link_step, default_st
 use Rattle.aol_flat.proofs.Inside.{point_both, place_in_body}
 use Rattle.aol_flat.proofs.Names.{both-true, same-equal}
 use Rattle.aol_flat.proofs.NodeAt.{one_node, known, task_there_on, limits_known}
-use Rattle.aol_flat.proofs.Once.{all_at, found_among}
+use Rattle.aol_flat.proofs.Once.{all_at}
 use Rattle.aol_flat.proofs.PortsOf.{own_input, own_output, input_shape_on, input_side, output_side}
 use Rattle.aol_flat.proofs.Real.{shape_limits}
 use Rattle.aol_flat.proofs.Sites.{find-passes}

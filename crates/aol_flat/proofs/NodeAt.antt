@@ -1,6 +1,5 @@
 -- What is known of the node with a number, and of the node above it.
-use Rattle.std.proofs.Common.{◌≡◌, ◌≢◌, ℕ, zero, suc, ◌<◌, List, [], ◌∷◌, length, get_or, Option, Some, slice_get, sym, ◌∙◌, ap, refl, arith, subst}
-use Rattle.std.specs.List.{IsAmong}
+use Rattle.std.proofs.Common.{◌≡◌, ◌≢◌, ℕ, ◌<◌, List, [], ◌∷◌, length, get_or, Some, slice_get, sym, ◌∙◌, ap, refl, arith, subst}
 use Rattle.std.specs.Prelude.{option_and_then}
 use Rattle.std.proofs.lemmas.Option.{slice_get_within, get_or_from_slice_get}
 use Rattle.aol_shape.specs.Shape.{IsPointOf}
@@ -20,7 +19,7 @@ use Rattle.aol_flat.specs.Place.{task_at}
 use Rattle.aol_flat.proofs.Among.{get_among}
 use Rattle.aol_flat.proofs.Checked.{IsTaskOf, task_of}
 use Rattle.aol_flat.proofs.Find.{and_then_some}
-use Rattle.aol_flat.proofs.NodeTasks.{HasSpaces, IsNodeTask, listed_is_known, task_on}
+use Rattle.aol_flat.proofs.NodeTasks.{IsNodeTask, listed_is_known, task_on}
 use Rattle.aol_flat.proofs.Real.{task_limits}
 
 -- a task to which a step leads is one of the model

@@ -1,10 +1,8 @@
 -- One step of following an output upwards, by numbers.
-use Rattle.std.proofs.Common.{◌≡◌, ℕ, ◌+◌, ◌<◌, true, ◌&&◌, List, [], ◌∷◌, ◌++◌, length, Option, Some, None, is_some, is_none, option_map, unwrap_or, slice_get, find, sym, ◌∙◌, ap, refl, arith, subst}
-use Rattle.std.specs.List.{IsAmong}
+use Rattle.std.proofs.Common.{◌≡◌, ℕ, ◌<◌, true, ◌&&◌, List, ◌∷◌, ◌++◌, Option, Some, None, is_none, slice_get, sym, ◌∙◌, ap, refl, subst}
 use Rattle.aol_shape.specs.Lists.{same}
-use Rattle.aol_shape.specs.Shape.{IsPointOf, IsShape, size, point_at}
-use Rattle.aol_tiler.specs.Matrices.{TilerOf}
-use Rattle.aol_tiler.specs.Tiler.{fits, Fits, address, address_point}
+use Rattle.aol_shape.specs.Shape.{IsPointOf, size, point_at}
+use Rattle.aol_tiler.specs.Tiler.{fits, address, address_point}
 use Rattle.aol_expr_tree.specs.declared.port.Port.{Port}
 use Rattle.aol_model_types.specs.declared.document.Model.{Model}
 use Rattle.aol_model_types.specs.declared.task.Compound.{Compound}
@@ -13,7 +11,7 @@ use Rattle.aol_model_types.specs.declared.task.Repeated.{Repeated}
 use Rattle.aol_model_types.specs.declared.task.Task.{Task}
 use Rattle.aol_model_types.specs.declared.task.Task.TheVariants as tasks
 use Rattle.aol_model_types.specs.declared.task.TilerOn.{TilerOn}
-use Rattle.aol_model_types.specs.Rules.{task_named, inputs_of, outputs_of, inputs_named, outputs_named, port_shape, from_shape, to_shape, fits_in}
+use Rattle.aol_model_types.specs.Rules.{inputs_of, outputs_of, port_shape, from_shape, to_shape}
 use Rattle.aol_flat.specs.Accept.{IsSound}
 use Rattle.aol_flat.specs.Feed.{IsNumberOf, IsHandedByLink, IsHandedByTiler, Hands}
 use Rattle.aol_flat.specs.declared.feed.Hand.{Hand}
@@ -26,7 +24,7 @@ use Rattle.aol_flat.specs.NodeTable.{IsNode, IsNodeRow}
 use Rattle.aol_flat.specs.Place.{Place, IntoPart, IntoRepetition, Element, task_at, instance_of_end}
 use Rattle.aol_flat.proofs.Arrays.{address_back}
 use Rattle.aol_flat.proofs.Fitting.{tiler_fits_ports}
-use Rattle.aol_flat.proofs.HasShape.{HasShape, one_shape, moved_shape, equal_shapes, given_shape, taken_shape}
+use Rattle.aol_flat.proofs.HasShape.{one_shape, moved_shape, equal_shapes, given_shape, taken_shape}
 use Rattle.aol_flat.proofs.Homes.{output_home, up_step, outer_step}
 use Rattle.aol_flat.proofs.Inside.{point_both, place_in_body}
 use Rattle.aol_flat.proofs.LinkSides.{link_there}

@@ -1,11 +1,11 @@
 -- The elements of the ports of an instance, one port after another.
-use Rattle.std.proofs.Common.{◌≡◌, ℕ, zero, suc, ◌+◌, ◌<◌, ◌≤◌, ◌^◌, List, [], ◌∷◌, ◌++◌, length, map, drop, sum_by, get_or, Some, slice_get, sym, ◌∙◌, ap, refl, arith, subst}
+use Rattle.std.proofs.Common.{◌≡◌, ℕ, zero, suc, ◌+◌, ◌<◌, ◌≤◌, ◌^◌, List, [], ◌∷◌, ◌++◌, length, map, drop, get_or, Some, slice_get, sym, ◌∙◌, ap, refl, arith, subst}
 use Rattle.std.specs.List.{AllZip, AllByRecursion}
 use Rattle.std.proofs.lemmas.List.{length-map}
 use Rattle.std.proofs.lemmas.List.Sums.{sum_by-cons}
 use Rattle.std.proofs.lemmas.Option.{slice_get_within}
-use Rattle.aol_shape.specs.Lists.{numbers_from, numbers_below}
-use Rattle.aol_shape.specs.Shape.{IsPointOf, IsShape, size, point_at, points, max_points}
+use Rattle.aol_shape.specs.Lists.{numbers_from}
+use Rattle.aol_shape.specs.Shape.{IsPointOf, size, point_at, max_points}
 use Rattle.aol_shape.proofs.Sizes.{size_positive}
 use Rattle.aol_expr_tree.specs.declared.port.Port.{Port}
 use Rattle.aol_model_types.specs.declared.document.Model.{Model}

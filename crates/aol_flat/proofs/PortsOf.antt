@@ -1,30 +1,25 @@
 -- The elements of a node's ports by numbers: their instance, their side and their shape.
-use Rattle.std.proofs.Common.{◌≡◌, ℕ, ◌+◌, ◌<◌, true, false, List, [], ◌∷◌, ◌++◌, length, Option, Some, None, is_some, option_map, unwrap_or, slice_get, sym, ◌∙◌, ap, refl, arith, subst}
-use Rattle.std.specs.List.{IsAmong}
-use Rattle.aol_shape.specs.Shape.{IsPointOf, IsShape, size, point_at}
+use Rattle.std.proofs.Common.{◌≡◌, ℕ, List, ◌++◌, Some, is_some, slice_get, sym, ◌∙◌, ap, subst}
+use Rattle.aol_shape.specs.Shape.{IsPointOf}
 use Rattle.aol_expr_tree.specs.declared.port.Port.{Port}
 use Rattle.aol_model_types.specs.declared.document.Model.{Model}
-use Rattle.aol_model_types.specs.declared.task.Repeated.{Repeated}
 use Rattle.aol_model_types.specs.declared.task.Task.{Task}
-use Rattle.aol_model_types.specs.declared.task.Task.TheVariants as tasks
-use Rattle.aol_model_types.specs.Rules.{task_named, inputs_of, outputs_of, inputs_named, outputs_named, port_shape}
+use Rattle.aol_model_types.specs.Rules.{inputs_of, outputs_of, port_shape}
 use Rattle.aol_flat.specs.Accept.{IsSound}
-use Rattle.aol_flat.specs.Feed.{IsNumberOf}
 use Rattle.aol_flat.specs.Follow.{IsElementOf, element_on}
-use Rattle.aol_flat.specs.Home.{Kept, home_of}
+use Rattle.aol_flat.specs.Home.{home_of}
 use Rattle.aol_flat.specs.Laid.{Laid, IsCellOf, IsReadOf}
 use Rattle.aol_flat.specs.declared.view.Read.{Read}
 use Rattle.aol_flat.specs.declared.view.Read.TheVariants.{Cell, Const}
-use Rattle.aol_flat.specs.Node.{Node, ToPart, ToBody, space_around, place_on}
+use Rattle.aol_flat.specs.Node.{Node, space_around, place_on}
 use Rattle.aol_flat.specs.NodeTable.{IsNode}
-use Rattle.aol_flat.specs.Place.{Place, Element, task_at}
+use Rattle.aol_flat.specs.Place.{Element}
 use Rattle.aol_flat.specs.Wired.{IsInput, IsOutput}
 use Rattle.aol_flat.proofs.Among.{get_among}
 use Rattle.aol_flat.proofs.Checked.{IsTaskOf, sides_apart}
-use Rattle.aol_flat.proofs.HasShape.{HasShape, input_shaped, output_shaped, one_shape}
-use Rattle.aol_flat.proofs.LinkSides.{at_input, at_output, input_there, output_there}
-use Rattle.aol_flat.proofs.NodeAt.{one_node, task_known, task_there_on}
-use Rattle.aol_flat.proofs.Once.{there}
+use Rattle.aol_flat.proofs.HasShape.{HasShape, input_shaped, output_shaped}
+use Rattle.aol_flat.proofs.LinkSides.{input_there, output_there}
+use Rattle.aol_flat.proofs.NodeAt.{task_known, task_there_on}
 use Rattle.aol_flat.proofs.Shapes.{input_own, output_own, shape_left, shape_right}
 
 -- elements of one home have one cell, and one reading

@@ -1,5 +1,5 @@
 -- The node above a node, and the indices around it.
-use Rattle.std.proofs.Common.{◌≡◌, ◌≢◌, ℕ, ◌+◌, ◌-◌, ◌*◌, ◌<◌, ◌≤◌, ◌^◌, List, [], ◌∷◌, ◌++◌, length, take, drop, Some, slice_get, sym, ◌∙◌, ap, refl, arith, subst}
+use Rattle.std.proofs.Common.{◌≡◌, ◌≢◌, ℕ, ◌+◌, ◌-◌, ◌*◌, ◌<◌, ◌≤◌, List, ◌∷◌, ◌++◌, length, take, drop, Some, sym, ◌∙◌, ap, refl, arith, subst}
 use Rattle.std.proofs.lemmas.List.{length-append}
 use Rattle.std.proofs.Math.Seq.{take-append_seam, drop-append_seam}
 use Rattle.aol_shape.specs.Shape.{size, rank, IsPointOf}
@@ -14,8 +14,8 @@ use Rattle.aol_flat.specs.Node.{Branch, ToPart, ToBody, Node, space_around, task
 use Rattle.aol_flat.specs.NodeTable.{IsNode, IsNodeRow}
 use Rattle.aol_flat.proofs.Arrays.{rank_both}
 use Rattle.aol_flat.proofs.Hands.{to_part, no_step, body_place}
-use Rattle.aol_flat.proofs.Inside.{point_length, point_split, point_both}
-use Rattle.aol_flat.proofs.NodeAt.{IsUnder, is_under, above_same, one_node}
+use Rattle.aol_flat.proofs.Inside.{point_length, point_split}
+use Rattle.aol_flat.proofs.NodeAt.{is_under, above_same, one_node}
 
 -- the node is the body of the node above
 pub record BodyAt (number up : ℕ) (node above : Node) (r : Repeated) : Type 0 where

@@ -1,6 +1,5 @@
 -- What a leaf computes or copies at a point of its space, and how many elements that is.
-use Rattle.std.proofs.Common.{◌≡◌, ℕ, zero, suc, ◌+◌, ◌*◌, ◌<◌, ◌≤◌, List, [], ◌∷◌, length, drop, set, Option, Some, None, slice_get, sym, ◌∙◌, ap, refl, arith, subst, inl, inr}
-use Rattle.std.specs.List.{AllZip}
+use Rattle.std.proofs.Common.{◌≡◌, ℕ, zero, suc, ◌*◌, ◌≤◌, List, [], ◌∷◌, length, set, Some, slice_get, sym, ◌∙◌, ap, refl, arith, subst, inl, inr}
 use Rattle.std.proofs.Math.Nat.{mul-le-mul_left}
 use Rattle.aol_shape.specs.Shape.{IsPointOf, size}
 use Rattle.aol_expr_tree.specs.declared.port.Port.{Port}
@@ -13,20 +12,20 @@ use Rattle.aol_flat.specs.declared.leaf.Leaf.{Leaf as LeafRow}
 use Rattle.aol_flat.specs.declared.leaf.LeafKind.{LeafKind}
 use Rattle.aol_flat.specs.declared.leaf.LeafKind.TheVariants as kinds
 use Rattle.aol_flat.specs.declared.nodes.LeafSpot.{LeafSpot}
-use Rattle.aol_flat.specs.Instance.{Leaf, Work, Computes, Copies, leaves, Instance, Run, instance_on, read_elements, written_elements, of_task}
+use Rattle.aol_flat.specs.Instance.{Leaf, Work, Computes, Copies, leaves, Run, instance_on, read_elements, written_elements, of_task}
 use Rattle.aol_flat.specs.LeafCursor.{HasPortsFrom, IsLeafPoint, elements_at, leaf_elements}
 use Rattle.aol_flat.specs.Leaves.{IsLeafRow, kind_of, narrowed}
 use Rattle.aol_flat.specs.Limits.{max_walk, own_walk, IsBounded}
 use Rattle.aol_flat.specs.Node.{Node, space_around, place_on, node_task, nodes}
 use Rattle.aol_flat.specs.NodeTable.{IsNode, IsLeafSpot}
-use Rattle.aol_flat.specs.Place.{Place, Element, elements_of}
+use Rattle.aol_flat.specs.Place.{elements_of}
 use Rattle.aol_flat.specs.Saturated.{saturated}
 use Rattle.aol_flat.proofs.Few.{walk_few}
-use Rattle.aol_flat.proofs.LeafForm.{LeafForm, leaf_form, node_some}
+use Rattle.aol_flat.proofs.LeafForm.{leaf_form, node_some}
 use Rattle.aol_flat.proofs.NodeAt.{known, one_node, task_there_on}
 use Rattle.aol_flat.proofs.Totals.{walk_of}
 
-one_leaf : (m : Model) (leaf : ℕ) (l k : Leaf) → slice_get (leaves m) leaf ≡ Some l → slice_get (leaves m) leaf ≡ Some k → l ≡ k
+pub one_leaf : (m : Model) (leaf : ℕ) (l k : Leaf) → slice_get (leaves m) leaf ≡ Some l → slice_get (leaves m) leaf ≡ Some k → l ≡ k
 one_leaf m leaf l k at here = let e : Some l ≡ Some k = sym at ∙ here in cc
 
 -- ---- by the kind of a leaf
@@ -79,7 +78,7 @@ copy_point m leaf at row p r kind =
 
 -- ---- a run
 
-run_space : (m : Model) (leaf : ℕ) (l : Leaf) → slice_get (leaves m) leaf ≡ Some l → l.work ≡ Computes → l.space ≡ space_around l.node
+pub run_space : (m : Model) (leaf : ℕ) (l : Leaf) → slice_get (leaves m) leaf ≡ Some l → l.work ≡ Computes → l.space ≡ space_around l.node
 run_space m leaf l at computes =
     elim (leaf_form m leaf l at).form [
       | inl r ↦ r.space

@@ -1,5 +1,5 @@
 -- Finding the indices of a point of a space by its rank, one after another.
-use Rattle.std.proofs.Common.{◌≡◌, ℕ, zero, suc, ◌+◌, ◌*◌, ◌/◌, ◌%◌, ◌<◌, ◌≤◌, length, take, drop, set, get_or, List, [], ◌∷◌, ◌++◌, Bool, true, false, IsTrue, ◌↔◌, sym, ◌∙◌, ap, subst, arith, append_assoc, add-one, drop-cons}
+use Rattle.std.proofs.Common.{◌≡◌, ℕ, zero, suc, ◌+◌, ◌*◌, ◌/◌, ◌%◌, ◌<◌, length, take, drop, set, get_or, List, [], ◌∷◌, ◌++◌, Bool, true, false, IsTrue, ◌↔◌, sym, ◌∙◌, ap, subst, arith, append_assoc, add-one, drop-cons}
 use Rattle.std.proofs.Math.Nat.{mul-div_cancel_left, mod-lt}
 use Rattle.std.proofs.lemmas.List.{take_more_set}
 use Rattle.std.specs.Bool.{OnTrue}

@@ -92,8 +92,3 @@ pub record IsAlong (m : Model) (leaf number : ℕ) (at : List ℕ) : Type 0 wher
   pub listed : slice_get (leaves m) leaf ≡ Some of_leaf
   pub within : number < size of_leaf.space
   pub is : at ≡ point_at of_leaf.space number
-
--- a cursor is at an instance of its leaf, each of which has so many elements
-pub record IsCursorAt (m : Model) (leaf number : ℕ) (at : List ℕ) (many each : ℕ) : Type 0 where
-  pub along : IsAlong m leaf number at
-  pub many_is : many ≡ each

@@ -39,4 +39,5 @@ pub mod Feed
 pub mod Follow
 pub mod Cursor
 pub mod LeafCursor
+pub mod Route
 pub mod Copies

@@ -129,7 +129,7 @@ impl Flat {
     }
 
     /// The repetition of a body at an instance with these indices.
-    fn repetition<'a>(&'a self, number: u32, at: &'a [u32]) -> Repetition<'a>
+    pub(crate) fn repetition<'a>(&'a self, number: u32, at: &'a [u32]) -> Repetition<'a>
         requires { IsBodyIndexed self.now.model number at.now }
         ensures number { result.number ≡ number }
         ensures place { IsRepetition self.now.model number result.up result.task.now result.around.now result.r.now }

@@ -6,7 +6,9 @@ ghost use Rattle.aol_flat.specs.LeafCursor.{IsAlong, ReadsEach, WritesEach, firs
 ghost use Rattle.aol_flat.specs.Level.{AreReadsOf, AreWritesOf};
 
 use crate::flat::Flat;
+use crate::nodes::LeafSpot;
 use crate::points::{go_on, unrank};
+use crate::route::Route;
 use crate::view::Read;
 use aol_shape::NoMemory;
 use std::alloc::Global;
@@ -64,6 +66,8 @@ impl<'a> Along<'a> {
 #[derive(Drop)]
 pub struct LeafReads<'a> {
     along: Along<'a>,
+    spot: LeafSpot,
+    routes: Vec<Route<'a>>,
     many: u32,
 }
 
@@ -71,7 +75,9 @@ impl<'a> Model for LeafReads<'a> {
     ghost use Rattle.aol_flat.specs.Cursor.{CursorOf};
     ghost use Rattle.std.specs.Coded.{codes};
     ghost use Rattle.aol_model_types.specs.contracts.document.Model as model_row;
-    ghost use Rattle.aol_flat.specs.LeafCursor.{IsCursorAt, reads_each};
+    ghost use Rattle.aol_model_types.specs.Rules.{inputs_of};
+    ghost use Rattle.aol_flat.specs.LeafCursor.{reads_each};
+    ghost use Rattle.aol_flat.specs.Route.{IsCursorOn};
 
     ghost Value = { CursorOf };
 
@@ -79,7 +85,7 @@ impl<'a> Model for LeafReads<'a> {
 
     ghost view = { λ c. record { flat = c.along.flat.now; leaf = c.along.leaf } };
 
-    ghost invariant = { λ c. IsCursorAt c.along.flat.now.model c.along.leaf c.along.number c.along.at.items c.many (reads_each c.along.flat.now.model c.along.leaf) };
+    ghost invariant = { λ c. IsCursorOn c.along.flat.now inputs_of c.along.leaf c.along.number c.along.at.items c.many (reads_each c.along.flat.now.model c.along.leaf) c.spot c.routes.items };
 }
 
 impl<'a> LeafReads<'a> {
@@ -102,7 +108,14 @@ impl<'a> LeafReads<'a> {
     {
         self.along.go_to(number);
         let flat = self.along.flat;
-        flat.reads_on(self.along.leaf, self.along.at.as_slice(), into);
+        let routes = self.routes.as_mut_slice();
+        flat.reads_on(
+            self.along.leaf,
+            self.spot,
+            self.along.at.as_slice(),
+            routes,
+            into,
+        );
     }
 }
 
@@ -112,6 +125,8 @@ impl<'a> LeafReads<'a> {
 #[derive(Drop)]
 pub struct LeafWrites<'a> {
     along: Along<'a>,
+    spot: LeafSpot,
+    routes: Vec<Route<'a>>,
     many: u32,
 }
 
@@ -119,7 +134,9 @@ impl<'a> Model for LeafWrites<'a> {
     ghost use Rattle.aol_flat.specs.Cursor.{CursorOf};
     ghost use Rattle.std.specs.Coded.{codes};
     ghost use Rattle.aol_model_types.specs.contracts.document.Model as model_row;
-    ghost use Rattle.aol_flat.specs.LeafCursor.{IsCursorAt, writes_each};
+    ghost use Rattle.aol_model_types.specs.Rules.{outputs_of};
+    ghost use Rattle.aol_flat.specs.LeafCursor.{writes_each};
+    ghost use Rattle.aol_flat.specs.Route.{IsCursorOn};
 
     ghost Value = { CursorOf };
 
@@ -127,7 +144,7 @@ impl<'a> Model for LeafWrites<'a> {
 
     ghost view = { λ c. record { flat = c.along.flat.now; leaf = c.along.leaf } };
 
-    ghost invariant = { λ c. IsCursorAt c.along.flat.now.model c.along.leaf c.along.number c.along.at.items c.many (writes_each c.along.flat.now.model c.along.leaf) };
+    ghost invariant = { λ c. IsCursorOn c.along.flat.now outputs_of c.along.leaf c.along.number c.along.at.items c.many (writes_each c.along.flat.now.model c.along.leaf) c.spot c.routes.items };
 }
 
 impl<'a> LeafWrites<'a> {
@@ -150,7 +167,14 @@ impl<'a> LeafWrites<'a> {
     {
         self.along.go_to(number);
         let flat = self.along.flat;
-        flat.writes_on(self.along.leaf, self.along.at.as_slice(), into);
+        let routes = self.routes.as_mut_slice();
+        flat.writes_on(
+            self.along.leaf,
+            self.spot,
+            self.along.at.as_slice(),
+            routes,
+            into,
+        );
     }
 }
 
@@ -161,10 +185,15 @@ impl Flat {
         ensures { IfOk result (λ c. c ≡ record { flat = self.now; leaf = leaf }) }
     {
         let many = self.reads_of(leaf);
-        match Along::new(alloc, self, leaf) {
-            Ok(along) => Ok(LeafReads { along, many }),
-            Err(error) => Err(error),
-        }
+        let spot = self.leaf_spot(leaf);
+        let along = Along::new(alloc, self, leaf)?;
+        let routes = self.input_routes(alloc, leaf, spot, along.at.as_slice())?;
+        Ok(LeafReads {
+            along,
+            spot,
+            routes,
+            many,
+        })
     }
 
     /// A cursor over what the instances of a leaf write.
@@ -173,9 +202,14 @@ impl Flat {
         ensures { IfOk result (λ c. c ≡ record { flat = self.now; leaf = leaf }) }
     {
         let many = self.writes_of(leaf);
-        match Along::new(alloc, self, leaf) {
-            Ok(along) => Ok(LeafWrites { along, many }),
-            Err(error) => Err(error),
-        }
+        let spot = self.leaf_spot(leaf);
+        let along = Along::new(alloc, self, leaf)?;
+        let routes = self.output_routes(alloc, leaf, spot, along.at.as_slice())?;
+        Ok(LeafWrites {
+            along,
+            spot,
+            routes,
+            many,
+        })
     }
 }

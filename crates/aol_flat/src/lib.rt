@@ -23,6 +23,7 @@ mod numbers;
 mod place;
 mod points;
 mod refused;
+mod route;
 mod shared;
 mod spot;
 mod stores;

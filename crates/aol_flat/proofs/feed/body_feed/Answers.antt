@@ -1,4 +1,4 @@
-use Rattle.std.proofs.Common.{◌≡◌, ◌∙◌, ℕ, List, None, Some, get_or, is_some, sym, ap, subst}
+use Rattle.std.proofs.Common.{◌≡◌, ◌∙◌, List, Some, get_or, is_some, sym, ap, subst}
 use Rattle.std.specs.List.{position}
 use Rattle.std.proofs.lemmas.Option.{none-some}
 use Rattle.aol_shape.specs.Lists.{same}

@@ -1,4 +1,4 @@
-use Rattle.std.proofs.Common.{◌≡◌, ℕ, List, get_or, is_some, sym, ◌∙◌, ap, subst}
+use Rattle.std.proofs.Common.{◌≡◌, List, get_or, is_some, sym, ◌∙◌, ap, subst}
 use Rattle.std.specs.List.{position}
 use Rattle.std.proofs.lemmas.Option.{get_or_from_slice_get}
 use Rattle.aol_shape.specs.Lists.{same}

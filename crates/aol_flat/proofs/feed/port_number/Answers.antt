@@ -1,4 +1,4 @@
-use Rattle.std.proofs.Common.{◌≡◌, List, ℕ, None, Some, sym, ◌∙◌}
+use Rattle.std.proofs.Common.{sym, ◌∙◌}
 use Rattle.aol_flat.proofs.Positions.{number_found, number_there}
 use Rattle.aol_flat.proofs.feed.port_number.Goals as goal
 

@@ -1,5 +1,4 @@
-use Rattle.std.proofs.Common.{◌≡◌, List, ℕ, sym, ap, subst}
-use Rattle.aol_shape.specs.Shape.{IsPointOf, IsShape}
+use Rattle.std.proofs.Common.{List, ℕ, sym, subst}
 use Rattle.aol_shape.proofs.Points.{point_at-is}
 use Rattle.aol_tiler.specs.Makers.{IsAddressed}
 use Rattle.aol_flat.proofs.Arrays.{addressed}

@@ -1,4 +1,4 @@
-use Rattle.std.proofs.Common.{length, ap, arith}
+use Rattle.std.proofs.Common.{arith}
 use Rattle.aol_flat.proofs.Unranking.{one_more}
 use Rattle.aol_flat.proofs.points.unrank.Goals as goal
 

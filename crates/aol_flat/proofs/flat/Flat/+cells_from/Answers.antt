@@ -1,4 +1,4 @@
-use Rattle.std.proofs.Common.{rules, ◌≡◌, ◌<◌, ◌≤◌, ◌+◌, ℕ, List, [], ◌∷◌, drop, length, sym, ◌∙◌, ap, subst, arith}
+use Rattle.std.proofs.Common.{◌≡◌, ◌<◌, ℕ, List, [], ◌∷◌, drop, length, sym, ◌∙◌, ap, subst, arith}
 use Rattle.std.proofs.lemmas.Bool.Decides.{nat_tests}
 use Rattle.std.specs.List.{AllZip}
 use Rattle.aol_shape.specs.Shape.{size}
@@ -9,11 +9,11 @@ use Rattle.aol_flat.specs.LeafCursor.{elements_at}
 use Rattle.aol_flat.specs.Node.{place_on}
 use Rattle.aol_flat.specs.Place.{elements_of}
 use Rattle.aol_flat.proofs.NodeAt.{one_node, number_within, limits_known}
-use Rattle.aol_flat.proofs.PortZip.{HasNext, next_output, port_read, zip_ports, no_ports, drop_typed, outputs_typed}
+use Rattle.aol_flat.proofs.PortZip.{next_output, port_read, zip_ports, no_ports, drop_typed, outputs_typed}
 use Rattle.aol_flat.proofs.flat.Flat.+cells_from.Goals as goal
 
-pub returns-then-is_empty : goal.returns-then-is_empty
-returns-then-is_empty t c = λ node u at.
+pub returns-then-is_empty-clause-cells : goal.returns-then-is_empty-clause-cells
+returns-then-is_empty-clause-cells t c = λ node u at.
     let none : length c.args.into.now ≡ 0 = grind (arith, nat_tests) in
     let p = c.requires.ports in
     let one = one_node c.args.self.now.model c.args.node p.node node p.task u p.at_node at in
@@ -29,8 +29,8 @@ returns-then-is_empty t c = λ node u at.
 pub task-requires : goal.task-requires
 task-requires t c = number_within c.args.self.now.model c.args.node c.requires.ports.node c.requires.ports.task c.requires.ports.at_node
 
-pub cells_at_port-requires : goal.cells_at_port-requires
-cells_at_port-requires t c =
+pub port_cells-requires-clause-port : goal.port_cells-requires-clause-port
+port_cells-requires-clause-port t c =
     let some : 0 < length c.args.into.now = grind (arith, nat_tests) in
     let h = next_output c.args.self.now.model c.args.node c.args.port (length c.args.into.now) c.args.at.now c.requires.flat.sound c.requires.ports some in
     let is = port_read c.args.self.now.model outputs_of c.args.node c.args.port (length c.args.into.now) c.args.at.now h c.task.ensures.task.0 c.task.result.now c.output.result.now c.task.ensures.task.1 c.output.ensures in
@@ -58,13 +58,13 @@ cells_from-requires t c =
     let h = next_output c.args.self.now.model c.args.node c.args.port (length c.args.into.now) c.args.at.now c.requires.flat.sound c.requires.ports some in
     let is = port_read c.args.self.now.model outputs_of c.args.node c.args.port (length c.args.into.now) c.args.at.now h c.task.ensures.task.0 c.task.result.now c.output.result.now c.task.ensures.task.1 c.output.ensures in
     let same : size c.output.result.now.shape ≡ size h.port.shape = ap (λ (q : Port). size q.shape) is in
-    (omega (arith, h.some, same), (c.requires.flat, record { node = h.node; task = h.task; at_node = h.at_node; around = h.around; many_is = omega (arith, h.total, same) }))
+    (omega (arith, h.some, same), (c.requires.flat, (record { node = h.node; task = h.task; at_node = h.at_node; around = h.around; many_is = omega (arith, h.total, same) }, c.port_cells.ensures.routes)))
 
-pub returns : goal.returns
-returns t c =
+pub returns-clause-cells : goal.returns-clause-cells
+returns-clause-cells t c =
     let some : 0 < length c.args.into.now = grind (arith, nat_tests) in
     let h = next_output c.args.self.now.model c.args.node c.args.port (length c.args.into.now) c.args.at.now c.requires.flat.sound c.requires.ports some in
     let is = port_read c.args.self.now.model outputs_of c.args.node c.args.port (length c.args.into.now) c.args.at.now h c.task.ensures.task.0 c.task.result.now c.output.result.now c.task.ensures.task.1 c.output.ensures in
     let same : size c.output.result.now.shape ≡ size h.port.shape = ap (λ (q : Port). size q.shape) is in
-    let count : length c.cells_at_port.new.into ≡ size h.port.shape = omega (arith, same) in
-    zip_ports (IsCellOf c.args.self.now) c.args.self.now.model outputs_of c.args.node c.args.port (length c.args.into.now) c.args.at.now h c.cells_at_port.new.into c.cells_from.new.into c.cells_at_port.ensures count c.cells_from.ensures
+    let count : length c.port_cells.new.into ≡ size h.port.shape = omega (arith, same) in
+    zip_ports (IsCellOf c.args.self.now) c.args.self.now.model outputs_of c.args.node c.args.port (length c.args.into.now) c.args.at.now h c.port_cells.new.into c.cells_from.new.into c.port_cells.ensures.cells count c.cells_from.ensures.cells

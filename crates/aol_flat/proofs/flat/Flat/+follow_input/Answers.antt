@@ -1,5 +1,4 @@
-use Rattle.std.proofs.Common.{◌≡◌, ◌<◌, ◌++◌, ◌∷◌, ◌∙◌, length, ℕ, List, Some, sym, ap, subst, arith}
-use Rattle.aol_model_types.specs.declared.task.Task.TheVariants as tasks
+use Rattle.std.proofs.Common.{◌++◌, arith}
 use Rattle.aol_model_types.specs.Rules.{inputs_of}
 use Rattle.aol_flat.proofs.Inward.{fed_from_own, fed_from_part, part_above}
 use Rattle.aol_flat.proofs.PortsOf.{cell_moves, read_moves, moved_element}

@@ -1,9 +1,5 @@
-use Rattle.std.proofs.Common.{rules, ◌≡◌, ◌<◌, ◌++◌, ◌∷◌, ◌∙◌, length, ℕ, List, sym, ap, subst, arith}
-use Rattle.aol_shape.specs.Shape.{IsPointOf}
+use Rattle.std.proofs.Common.{◌++◌, arith}
 use Rattle.aol_model_types.specs.Rules.{outputs_of}
-use Rattle.aol_flat.specs.Follow.{IsElementOf, IsStoredOutput, IsCellOfPort}
-use Rattle.aol_flat.specs.Node.{Node, ToBody, space_around}
-use Rattle.aol_flat.specs.NodeTable.{IsNode}
 use Rattle.aol_flat.proofs.Outward.{handed_up}
 use Rattle.aol_flat.proofs.PortsOf.{cell_moves, moved_element}
 use Rattle.aol_flat.proofs.flat.Flat.+follow_output.Goals as goal

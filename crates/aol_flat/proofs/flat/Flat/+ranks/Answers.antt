@@ -1,4 +1,4 @@
-use Rattle.std.proofs.Common.{rules, ◌≡◌, ◌≢◌, ◌≤◌, ◌<◌, ◌+◌, ◌*◌, ◌∷◌, ◌++◌, ◌∙◌, length, ℕ, List, sym, ap, subst, arith}
+use Rattle.std.proofs.Common.{rules, ◌≡◌, ◌+◌, ◌*◌, ◌∷◌, ◌++◌, ◌∙◌, length, sym, ap, subst, arith}
 use Rattle.aol_shape.specs.Shape.{IsPointOf, rank, size}
 use Rattle.aol_shape.proofs.Points.{rank-lt-size}
 use Rattle.aol_model_types.specs.declared.task.Task.{Task}

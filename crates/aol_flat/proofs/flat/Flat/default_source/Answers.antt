@@ -1,4 +1,4 @@
-use Rattle.std.proofs.Common.{◌≡◌, ◌<◌, ◌++◌, ◌∙◌, length, get_or, slice_get, is_some, true, ℕ, List, Some, None, sym, ap, subst, arith}
+use Rattle.std.proofs.Common.{◌≡◌, ◌<◌, ◌++◌, ◌∙◌, length, get_or, slice_get, is_some, true, List, Some, sym, ap, subst, arith}
 use Rattle.std.proofs.lemmas.Option.{slice_get_within}
 use Rattle.aol_shape.specs.Shape.{size, point_at}
 use Rattle.aol_tiler.specs.Tiler.{fits, address}
@@ -6,7 +6,6 @@ use Rattle.aol_expr_tree.specs.declared.port.Port.{Port}
 use Rattle.aol_link.specs.declared.link.Choice.{Choice}
 use Rattle.aol_link.specs.declared.link.Fallback.TheVariants.{Number, Tiled}
 use Rattle.aol_link.specs.declared.link.Interlink.{Interlink}
-use Rattle.aol_link.specs.Links.{source_repetition}
 use Rattle.aol_link.specs.Types.{IsDefaulted}
 use Rattle.aol_model_types.specs.declared.task.Task.TheVariants as tasks
 use Rattle.aol_model_types.specs.Rules.{inputs_of, port_shape}

@@ -1,8 +1,8 @@
-use Rattle.std.proofs.Common.{◌≡◌, ◌<◌, ◌∙◌, length, ℕ, List, Some, sym, ap, subst}
+use Rattle.std.proofs.Common.{◌≡◌, ◌<◌, ◌∙◌, length, sym, ap, subst}
 use Rattle.aol_expr_tree.specs.declared.port.Port.{Port}
 use Rattle.aol_model_types.specs.declared.task.Task.{Task}
 use Rattle.aol_model_types.specs.declared.task.Task.TheVariants as tasks
-use Rattle.aol_model_types.specs.Rules.{inputs_of, outputs_of, task_named}
+use Rattle.aol_model_types.specs.Rules.{inputs_of}
 use Rattle.aol_model_types.specs.Types.{IsTask}
 use Rattle.aol_flat.specs.Node.{Node, task_under}
 use Rattle.aol_flat.specs.NodeTable.{IsNode}

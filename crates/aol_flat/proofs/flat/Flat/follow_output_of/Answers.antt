@@ -1,4 +1,4 @@
-use Rattle.std.proofs.Common.{◌≡◌, ◌++◌, ◌∷◌}
+use Rattle.std.proofs.Common.{◌++◌, ◌∷◌}
 use Rattle.aol_flat.specs.Node.{ToBody}
 use Rattle.aol_flat.proofs.NodeAt.{one_node}
 use Rattle.aol_flat.proofs.Outward.{body_stored}

@@ -1,10 +1,10 @@
-use Rattle.std.proofs.Common.{◌≡◌, ◌<◌, ◌∙◌, length, ℕ, List, sym, ap, subst}
+use Rattle.std.proofs.Common.{◌≡◌, ◌<◌, ◌∙◌, length, sym, ap, subst}
 use Rattle.aol_expr_tree.specs.declared.port.Port.{Port}
 use Rattle.aol_model_types.specs.declared.task.Task.{Task}
 use Rattle.aol_model_types.specs.declared.task.Task.TheVariants as tasks
-use Rattle.aol_model_types.specs.Rules.{outputs_of, task_named}
+use Rattle.aol_model_types.specs.Rules.{outputs_of}
 use Rattle.aol_model_types.specs.Types.{IsTask}
-use Rattle.aol_flat.specs.Node.{node_task, task_under}
+use Rattle.aol_flat.specs.Node.{task_under}
 use Rattle.aol_flat.specs.Feed.{PartHands, BodyHands}
 use Rattle.aol_flat.proofs.Among.{among_get}
 use Rattle.aol_flat.proofs.Checked.{IsTaskOf}

@@ -1,4 +1,4 @@
-use Rattle.std.proofs.Common.{rules, ◌≡◌, ◌<◌, ◌^◌, ◌∷◌, ◌∙◌, length, ℕ, List, Some, None, is_some, sym, ap, subst, arith}
+use Rattle.std.proofs.Common.{rules, ◌≡◌, ◌<◌, ◌^◌, ◌∷◌, ◌∙◌, length, ℕ, Some, is_some, sym, ap, subst, arith}
 use Rattle.std.specs.Option.{option_copied}
 use Rattle.aol_model_types.specs.declared.task.Task.TheVariants as tasks
 use Rattle.aol_model_types.specs.Rules.{port_shape, outputs_of}

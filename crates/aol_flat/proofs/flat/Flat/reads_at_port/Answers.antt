@@ -1,6 +1,5 @@
-use Rattle.std.proofs.Common.{rules, ◌≡◌, ◌<◌, ◌^◌, length, ℕ, refl, arith}
+use Rattle.std.proofs.Common.{rules, ◌<◌, ◌^◌, ℕ, refl, arith}
 use Rattle.aol_shape.specs.Shape.{size}
-use Rattle.aol_model_types.specs.Rules.{outputs_of}
 use Rattle.aol_flat.specs.declared.view.Read.{Read}
 use Rattle.aol_flat.specs.Follow.{element_on, IsReadOfInput}
 use Rattle.aol_flat.proofs.FirstOnes.{first_more}

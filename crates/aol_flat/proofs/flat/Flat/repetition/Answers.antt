@@ -1,6 +1,5 @@
-use Rattle.std.proofs.Common.{◌≡◌, ◌∷◌, ◌≤◌, length, ℕ, List, sym, ap, subst, arith}
+use Rattle.std.proofs.Common.{◌∷◌, length, ap, subst, arith}
 use Rattle.aol_model_types.specs.declared.task.Task.{Task}
-use Rattle.aol_model_types.specs.declared.task.Task.TheVariants as tasks
 use Rattle.aol_flat.specs.Node.{Node, ToBody}
 use Rattle.aol_flat.specs.NodeTable.{IsNode}
 use Rattle.aol_flat.proofs.NodeAt.{not_root}

@@ -10,8 +10,8 @@ run_writes-requires-clause-point c = run_point c.args.self.now.model c.args.leaf
 pub copy_write-requires : goal.copy_write-requires
 copy_write-requires c = copy_point c.args.self.now.model c.args.leaf c.args.at.now c.leaf.result.now c.requires.point c.leaf.ensures c.in-Copy.is
 
-pub returns-in-Copy : goal.returns-in-Copy
-returns-in-Copy c =
+pub returns-in-Copy-clause-cells : goal.returns-in-Copy-clause-cells
+returns-in-Copy-clause-cells c =
     let p = copy_point c.args.self.now.model c.args.leaf c.args.at.now c.leaf.result.now c.requires.point c.leaf.ensures c.in-Copy.is in
     let count : length c.args.into.now ≡ 1 = c.requires.many ∙ copy_elements outputs_of c.args.self.now.model c.args.leaf p.leaf p.reshape p.entries p.listed p.copies in
     subst (AreWritesAt c.args.self.now c.args.leaf c.args.at.now) (sym (one_written c.args.into.now c.copy_write.result count)) c.copy_write.ensures

@@ -18,3 +18,5 @@ pub mod NewLeaves
 pub mod Meets
 pub mod Origins
 pub mod MapTold
+mod Sample
+mod Examples

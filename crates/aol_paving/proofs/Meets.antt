@@ -1,5 +1,5 @@
 -- The tilers of all ways of a repetition of repetitions meet.
-use Rattle.std.proofs.Common.{◌≡◌, ℕ, true, List, [], Some, sym, ◌∙◌, ap, subst}
+use Rattle.std.proofs.Common.{◌≡◌, ℕ, true, List, [], ◌++◌, Option, Some, sym, ◌∙◌, ap, subst}
 use Rattle.std.specs.List.{IsAmong, AllByRecursion}
 use Rattle.aol_model_types.specs.declared.document.Model.{Model}
 use Rattle.aol_model_types.specs.declared.task.Repeated.{Repeated}
@@ -38,9 +38,11 @@ module _ (m : Model) (t u : Repeated) (outer block : List ℕ) (sound : IsSound 
       subst (λ o. AllByRecursion (Meet u.space block) (crossings t u (outputs_in o))) (s.innermost ∙ sym s.innermost_in)
       (all_among (Meet u.space block) (crossings t u (outputs_in (task_named r.before u.task))) (λ c a. one_meets r.before s c (out_all r.before t u s.top s.low s.once s.apart c a)))
 
-  -- the same of lists that are these
-  pub meet_ins : (o : _) (cs : List Crossing) → o ≡ task_named m.tasks u.task → cs ≡ crossings t u (inputs_in o) → AllByRecursion (Meet u.space block) cs
-  meet_ins o cs is listed = subst (AllByRecursion (Meet u.space block)) (sym (listed ∙ ap (λ x. crossings t u (inputs_in x)) is)) inputs_meet
+  -- the same of lists that are made of these
+  pub meet_ins : (o : Option Task) (cs old new : List Crossing) → o ≡ task_named m.tasks u.task → cs ≡ new → new ≡ old ++ crossings t u (inputs_in o) → old ≡ [] → AllByRecursion (Meet u.space block) cs
+  meet_ins o cs old new is listed made none =
+      subst (AllByRecursion (Meet u.space block)) (sym (listed ∙ (made ∙ (ap (λ z. z ++ crossings t u (inputs_in o)) none ∙ ap (λ x. crossings t u (inputs_in x)) is)))) inputs_meet
 
-  pub meet_outs : (o : _) (cs : List Crossing) → o ≡ task_named m.tasks u.task → cs ≡ crossings t u (outputs_in o) → AllByRecursion (Meet u.space block) cs
-  meet_outs o cs is listed = subst (AllByRecursion (Meet u.space block)) (sym (listed ∙ ap (λ x. crossings t u (outputs_in x)) is)) outputs_meet
+  pub meet_outs : (o : Option Task) (cs old new : List Crossing) → o ≡ task_named m.tasks u.task → cs ≡ new → new ≡ old ++ crossings t u (outputs_in o) → old ≡ [] → AllByRecursion (Meet u.space block) cs
+  meet_outs o cs old new is listed made none =
+      subst (AllByRecursion (Meet u.space block)) (sym (listed ∙ (made ∙ (ap (λ z. z ++ crossings t u (outputs_in o)) none ∙ ap (λ x. crossings t u (outputs_in x)) is)))) outputs_meet

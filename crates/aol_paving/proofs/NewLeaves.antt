@@ -250,7 +250,7 @@ module _ (m : Model) (agree : ShapesAgree m) (t u : Repeated) (name_is : task_na
   only x = (0, (omega arith, refl))
 
   -- the inner repetition is another task than the outer one
-  inner_other : same u.name t.name ≡ false
+  pub inner_other : same u.name t.name ≡ false
   inner_other = go (same u.name t.name) refl
     where
       go : (b : Bool) → same u.name t.name ≡ b → same u.name t.name ≡ false

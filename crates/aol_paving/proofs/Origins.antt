@@ -286,11 +286,11 @@ module _ (m : Model) (t u : Repeated) (outer block : List ℕ) (sound : IsSound 
 
   body_moved : (s : List ℕ) (up : Node) (r : Repeated) (w : Task) → node_task m up ≡ Some (tasks.Repeated r) → s ≡ r.space → node_task m (ToBody s ∷ up) ≡ Some w → same r.name t.name ≡ false → is_body_of m t.name up ≡ false
       → IsMoved up (tasks.Repeated r) → IsMoved (ToBody s ∷ up) w
-  body_moved s up r w at space_is h e no mv =
+  body_moved s up r w at space_is h e aside mv =
       let leads : task_named m.tasks r.task ≡ Some w = sym (ap (option_and_then (λ y. task_under m y (ToBody s))) at) ∙ h in
       let there : node_task next (moved up) ≡ Some (tasks.Repeated r) = mv.task ∙ ap (λ y. Some y) (now_other (tasks.Repeated r) e) in
       let here : moved (ToBody s ∷ up) ≡ ToBody s ∷ moved up =
-      ap (λ b. ToBody (cond b outer (cond (is_body_of m t.name up) (block ++ s) s)) ∷ moved up) (at_is up (tasks.Repeated r) at ∙ e) ∙ ap (λ b. ToBody (cond b (block ++ s) s) ∷ moved up) no in
+      ap (λ b. ToBody (cond b outer (cond (is_body_of m t.name up) (block ++ s) s)) ∷ moved up) (at_is up (tasks.Repeated r) at ∙ e) ∙ ap (λ b. ToBody (cond b (block ++ s) s) ∷ moved up) aside in
       let keeps : (x y : List ℕ) → IsPointOf (space_around (moved up)) x → IsPointOf s y
       → unpave name t.space block (name_at next (place_on (moved up) x)) (IntoRepetition y) (old_of (place_on (moved up) x)) ≡ IntoRepetition y ∷ old_of (place_on (moved up) x) =
       λ x y hx hy.
@@ -371,12 +371,12 @@ module _ (m : Model) (t u : Repeated) (outer block : List ℕ) (sound : IsSound 
   twice_moved : (s s' : List ℕ) (up : Node) (r r' : Repeated) (w : Task) → node_task m (ToBody s' ∷ up) ≡ Some (tasks.Repeated r) → s ≡ r.space → node_task m up ≡ Some (tasks.Repeated r') → s' ≡ r'.space
       → node_task m (ToBody s ∷ ToBody s' ∷ up) ≡ Some w → is_body_of m t.name (ToBody s ∷ ToBody s' ∷ up) ≡ false → (is_body_of m t.name (ToBody s' ∷ up) ≡ false → IsMoved (ToBody s' ∷ up) (tasks.Repeated r))
       → (is_body_of m t.name up ≡ false → IsMoved up (tasks.Repeated r')) → IsMoved (ToBody s ∷ ToBody s' ∷ up) w
-  twice_moved s s' up r r' w at inner_is at' outer_is h no rec rec' = go (same r'.name t.name) refl
+  twice_moved s s' up r r' w at inner_is at' outer_is h aside rec rec' = go (same r'.name t.name) refl
     where
       go : (c : Bool) → same r'.name t.name ≡ c → IsMoved (ToBody s ∷ ToBody s' ∷ up) w
       go false e =
           let plain : is_body_of m t.name (ToBody s' ∷ up) ≡ false = at_is up (tasks.Repeated r') at' ∙ e in
-          body_moved s (ToBody s' ∷ up) r w at inner_is h (sym (at_is (ToBody s' ∷ up) (tasks.Repeated r) at) ∙ no) plain (rec plain)
+          body_moved s (ToBody s' ∷ up) r w at inner_is h (sym (at_is (ToBody s' ∷ up) (tasks.Repeated r) at) ∙ aside) plain (rec plain)
       go true e =
           let is = is_task m t named up (tasks.Repeated r') at' e in
           let same_outer : r' ≡ t = cc in
@@ -388,18 +388,18 @@ module _ (m : Model) (t u : Repeated) (outer block : List ℕ) (sound : IsSound 
           (subst (IsMoved up) is (rec' (named_no_body up (tasks.Repeated r') at' e)))
 
   node_moved : (node : Node) (v : Task) → node_task m node ≡ Some v → HasSpaces m node → is_body_of m t.name node ≡ false → IsMoved node v
-  node_moved [] v h spaces no = top_moved v h
-  node_moved (ToPart k ∷ up) v h spaces no =
+  node_moved [] v h spaces aside = top_moved v h
+  node_moved (ToPart k ∷ up) v h spaces aside =
       let f = and_then_some (λ x. task_under m x (ToPart k)) (node_task m up) v h in
       let plain : is_body_of m t.name up ≡ false = no_body up f.0 f.1 (λ r e is. let clash : None ≡ Some v = sym (ap (λ x. task_under m x (ToPart k)) e) ∙ f.2 in absurd (cc)) in
       part_moved k up f.0 v f.1 f.2 (node_moved up f.0 f.1 spaces plain)
-  node_moved (ToBody s ∷ []) v h spaces no =
-      body_moved s [] spaces.0.0 v spaces.0.1 spaces.0.2 h (sym (at_is [] (tasks.Repeated spaces.0.0) spaces.0.1) ∙ no) refl (top_moved (tasks.Repeated spaces.0.0) spaces.0.1)
-  node_moved (ToBody s ∷ ToPart k ∷ up) v h spaces no =
-      body_moved s (ToPart k ∷ up) spaces.0.0 v spaces.0.1 spaces.0.2 h (sym (at_is (ToPart k ∷ up) (tasks.Repeated spaces.0.0) spaces.0.1) ∙ no) refl
+  node_moved (ToBody s ∷ []) v h spaces aside =
+      body_moved s [] spaces.0.0 v spaces.0.1 spaces.0.2 h (sym (at_is [] (tasks.Repeated spaces.0.0) spaces.0.1) ∙ aside) refl (top_moved (tasks.Repeated spaces.0.0) spaces.0.1)
+  node_moved (ToBody s ∷ ToPart k ∷ up) v h spaces aside =
+      body_moved s (ToPart k ∷ up) spaces.0.0 v spaces.0.1 spaces.0.2 h (sym (at_is (ToPart k ∷ up) (tasks.Repeated spaces.0.0) spaces.0.1) ∙ aside) refl
       (node_moved (ToPart k ∷ up) (tasks.Repeated spaces.0.0) spaces.0.1 spaces.1 refl)
-  node_moved (ToBody s ∷ ToBody s' ∷ up) v h spaces no =
-      twice_moved s s' up spaces.0.0 spaces.1.0.0 v spaces.0.1 spaces.0.2 spaces.1.0.1 spaces.1.0.2 h no (λ plain. node_moved (ToBody s' ∷ up) (tasks.Repeated spaces.0.0) spaces.0.1 spaces.1 plain)
+  node_moved (ToBody s ∷ ToBody s' ∷ up) v h spaces aside =
+      twice_moved s s' up spaces.0.0 spaces.1.0.0 v spaces.0.1 spaces.0.2 spaces.1.0.1 spaces.1.0.2 h aside (λ plain. node_moved (ToBody s' ∷ up) (tasks.Repeated spaces.0.0) spaces.0.1 spaces.1 plain)
       (λ plain. node_moved up (tasks.Repeated spaces.1.0.0) spaces.1.0.1 spaces.1.1 plain)
 
   -- ---- the map

@@ -2,7 +2,6 @@
 
 ghost use Rattle.std.specs.Prelude.{◌≡◌, ◌+◌, ◌<◌, ◌^◌, ◌++◌, [], ◌∷◌, length, map, true, Some, IfOk, OnOk};
 ghost use Rattle.std.specs.List.{AllByRecursion};
-ghost use Rattle.std.specs.Option.{option_copied};
 ghost use Rattle.aol_shape.specs.Lists.{or_else};
 ghost use Rattle.aol_model_types.specs.declared.task.Task.TheVariants as tasks;
 ghost use Rattle.aol_model_types.specs.Rules.{task_named};
@@ -273,7 +272,16 @@ fn push_tasks(
     push_inputs(alloc, task, inner, innermost, &mut ins)?;
     let mut outs = Items::new(alloc);
     push_outputs(alloc, task, inner, innermost, &mut outs)?;
-    push_levels(alloc, task, inner, ins.as_slice(), outs.as_slice(), args, name, put)
+    push_levels(
+        alloc,
+        task,
+        inner,
+        ins.as_slice(),
+        outs.as_slice(),
+        args,
+        name,
+        put,
+    )
 }
 
 /// The model with the paving of two levels changed.
@@ -313,18 +321,16 @@ fn paved_levels(
     alloc: Global,
     model: &Model,
     task: &Repeated,
-    inner: Option<&Task>,
     args: &PaveArgs,
 ) -> Result<Model, StepRefused>
     requires sound { IsSound model.now }
     requires found { task_named model.now.tasks task.now.name ≡ Some (tasks.Repeated task.now) }
-    requires below { option_copied inner ≡ task_named model.now.tasks task.now.task }
     ensures step { IsStep result (paved_levels model.now task.now (task_named model.now.tasks task.now.task) args.now.outer args.now.block) }
     ensures sound { IfOk result (λ m. IsSound m) }
 {
     let _outer = args.outer.as_slice();
     let _block = args.block.as_slice();
-    let Some(Task::Repeated(inner)) = inner else {
+    let Some(Task::Repeated(inner)) = task_named(model.tasks.as_slice(), &task.task) else {
         return Err(StepRefused::NotTwoLevels);
     };
     if !task.links.is_empty() || !inner.links.is_empty() {
@@ -354,14 +360,11 @@ pub fn paved(
     ensures step { IsStep result (paved_task model.now (task_named model.now.tasks name.now) args.now.outer args.now.block) }
     ensures sound { IfOk result (λ m. IsSound m) }
 {
-    let tasks = model.tasks.as_slice();
-    match task_named(tasks, name) {
-        Some(Task::Repeated(task)) => {
-            match paved_levels(alloc, model, task, task_named(tasks, &task.task), args) {
-                Ok(model) => Ok(model),
-                Err(error) => Err(error),
-            }
-        }
+    match task_named(model.tasks.as_slice(), name) {
+        Some(Task::Repeated(task)) => match paved_levels(alloc, model, task, args) {
+            Ok(model) => Ok(model),
+            Err(error) => Err(error),
+        },
         _ => Err(StepRefused::NotRepeated),
     }
 }

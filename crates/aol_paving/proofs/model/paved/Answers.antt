@@ -6,4 +6,4 @@ use Rattle.aol_paving.proofs.model.paved.Goals as goal
 
 pub paved_levels-requires-clause-found : goal.paved_levels-requires-clause-found
 paved_levels-requires-clause-found c = found_name c.args.model.now c.args.name.now (tasks.Repeated c.in-Some-Repeated.task)
-    (ap (λ ts. task_named ts c.args.name.now) (sym c.as_slice-tasks.ensures) ∙ (sym c.in-Some-Repeated.ensures ∙ ap (λ t. Some t) c.in-Some-Repeated.field-0-is))
+    (ap (λ ts. task_named ts c.args.name.now) (sym c.as_slice.ensures) ∙ (sym c.in-Some-Repeated.ensures ∙ ap (λ t. Some t) c.in-Some-Repeated.field-0-is))

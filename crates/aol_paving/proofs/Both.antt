@@ -1,13 +1,12 @@
 -- What is known of both levels that are paved anew, and the rules of the new inner repetition.
-use Rattle.std.proofs.Common.{◌≡◌, ℕ, ◌+◌, ◌≤◌, Bool, true, false, not, ◌&&◌, ◌||◌, ◌==◌, List, [], ◌∷◌, ◌++◌, map, filter_map, Option, Some, None, is_some, is_none, sym, ◌∙◌, ap, refl, arith, subst, ◌⊎◌, inl, inr}
-use Rattle.std.specs.List.{IsAmong, list_all, list_any, count_by}
+use Rattle.std.proofs.Common.{◌≡◌, ℕ, ◌+◌, ◌≤◌, Bool, true, false, not, ◌&&◌, ◌||◌, ◌==◌, List, [], ◌∷◌, ◌++◌, map, Some, is_some, is_none, sym, ◌∙◌, ap, refl, arith, subst, ◌⊎◌, inl, inr}
+use Rattle.std.specs.List.{IsAmong, list_any, count_by}
 use Rattle.std.proofs.lemmas.Bool.{eq-eqb}
 use Rattle.std.proofs.lemmas.List.{append_assoc, map-append}
 use Rattle.std.proofs.lemmas.List.Elements.{filter_map-append}
 use Rattle.aol_shape.specs.Lists.{same}
 use Rattle.aol_tiler.specs.Tiler.{inner_of}
 use Rattle.aol_expr_tree.specs.declared.port.Port.{Port}
-use Rattle.aol_link.specs.declared.link.Interlink.{Interlink}
 use Rattle.aol_model_types.specs.declared.place.Key.TheVariants.{KIn, KOut, KTilers, KName}
 use Rattle.aol_model_types.specs.declared.place.PlaceStep.{PlaceStep}
 use Rattle.aol_model_types.specs.declared.task.Repeated.{Repeated}
@@ -15,7 +14,7 @@ use Rattle.aol_model_types.specs.declared.task.Task.{Task}
 use Rattle.aol_model_types.specs.declared.task.TilerOn.{TilerOn}
 use Rattle.aol_model_types.specs.Places.{to_key}
 use Rattle.aol_model_types.specs.Rules.{each, inputs_named, outputs_named, port_shape, port_checks, tiler_checks, is_on_ports, tiles_output_once, tiler_fits, fits_in, inner_is_fed, all_inner_fed, is_tiled, is_new_port, is_earlier_task}
-use Rattle.aol_flat.proofs.Among.{among_append, map_among, among_map}
+use Rattle.aol_flat.proofs.Among.{among_append, map_among}
 use Rattle.aol_flat.proofs.Checked.{HoldsOfRepeated, tiled_checks}
 use Rattle.aol_flat.proofs.Different.{Hold}
 use Rattle.aol_flat.proofs.Inside.{among_left, among_right}

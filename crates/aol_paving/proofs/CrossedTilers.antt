@@ -7,11 +7,11 @@ use Rattle.std.proofs.lemmas.List.{length-append, length-map, append_assoc}
 use Rattle.std.proofs.lemmas.List.Folds.{list_all-append}
 use Rattle.aol_shape.specs.declared.limit.LimitName.TheVariants as limits
 use Rattle.aol_shape.specs.Vectors.{IsVector, IsVectorEntry, plus, times, plus_columns, max_entry}
-use Rattle.aol_tiler.specs.Makers.{AreComposable, IsBlockable}
+use Rattle.aol_tiler.specs.Makers.{IsBlockable}
 use Rattle.aol_tiler.specs.Matrices.{TilerOf}
-use Rattle.aol_tiler.specs.Tiler.{IsTiler, has_entries, fits, composed, blocked, flat, zero_like, first_out_of, first_entry_out}
+use Rattle.aol_tiler.specs.Tiler.{IsTiler, has_entries, fits, composed, flat, zero_like, first_out_of, first_entry_out}
 use Rattle.aol_change.specs.Change.{tiler_limit}
-use Rattle.aol_change.proofs.TilerForms.{FitsBy, fits_by, by_fits, blocked_fits}
+use Rattle.aol_change.proofs.TilerForms.{fits_by, by_fits, blocked_fits}
 use Rattle.aol_flat.proofs.Names.{both-true}
 use Rattle.aol_flat.proofs.Truth.{both}
 use Rattle.aol_paving.specs.declared.crossing.Crossing.{Crossing}

@@ -11,7 +11,7 @@ use Rattle.aol_flat.specs.Home.{Home, home_of, Kept}
 use Rattle.aol_flat.specs.Instance.{Run}
 use Rattle.aol_flat.specs.Place.{IntoRepetition}
 use Rattle.aol_change.specs.declared.refused.StepRefused.TheVariants.{NotRepeated, NotTwoLevels, HasLinks, Rank, Limit}
-use Rattle.aol_change.specs.Change.{Stepped, Changed, Refused}
+use Rattle.aol_change.specs.Change.{Changed, Refused}
 use Rattle.aol_change.proofs.Sample.{tiling, over, run_model}
 use Rattle.aol_paving.specs.Pave.{pave, paved_model, pave_origin}
 use Rattle.aol_paving.proofs.Sample.{mid, wrap, wrap_model, rows_model, ten_model}

@@ -1,20 +1,18 @@
 -- What the rules say of the tilers of one repetition.
-use Rattle.std.proofs.Common.{◌≡◌, ℕ, ◌+◌, ◌≤◌, Bool, true, false, List, [], ◌∷◌, ◌++◌, Option, Some, None, is_some, find, sym, ◌∙◌, ap, refl, arith, ◌⊎◌, inl, inr}
+use Rattle.std.proofs.Common.{◌≡◌, ℕ, true, false, List, [], ◌++◌, Some, is_some, sym, ◌∙◌, ap, arith, ◌⊎◌, inl, inr}
 use Rattle.std.specs.List.{IsAmong, count_by}
 use Rattle.aol_shape.specs.Lists.{same}
 use Rattle.aol_expr_tree.specs.declared.port.Port.{Port}
 use Rattle.aol_link.specs.declared.link.Interlink.{Interlink}
-use Rattle.aol_model_types.specs.declared.document.Model.{Model}
 use Rattle.aol_model_types.specs.declared.place.Key.TheVariants.{KOut}
 use Rattle.aol_model_types.specs.declared.place.PlaceStep.{PlaceStep}
 use Rattle.aol_model_types.specs.declared.task.Repeated.{Repeated}
 use Rattle.aol_model_types.specs.declared.task.Task.{Task}
-use Rattle.aol_model_types.specs.declared.task.Task.TheVariants as tasks
 use Rattle.aol_model_types.specs.declared.task.TilerOn.{TilerOn}
 use Rattle.aol_model_types.specs.Places.{to_key}
-use Rattle.aol_model_types.specs.Rules.{task_named, inputs_of, outputs_of, port_shape, fits_in, is_tiled, kind_checks}
+use Rattle.aol_model_types.specs.Rules.{task_named, inputs_of, outputs_of, port_shape, fits_in, is_tiled}
 use Rattle.aol_flat.specs.Home.{tiler_at}
-use Rattle.aol_flat.proofs.Checked.{HoldsOfRepeated, member, sides_apart, tiled_checks}
+use Rattle.aol_flat.proofs.Checked.{HoldsOfRepeated, member, tiled_checks}
 use Rattle.aol_flat.proofs.Names.{both-true, same-equal}
 use Rattle.aol_flat.proofs.Once.{counted_found, found_among}
 use Rattle.aol_flat.proofs.Sites.{find-passes}

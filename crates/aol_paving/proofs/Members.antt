@@ -1,15 +1,10 @@
 -- Members of lists.
-use Rattle.std.proofs.Common.{◌≡◌, ℕ, zero, suc, ◌+◌, ◌≤◌, Bool, true, false, cond, ◌&&◌, ◌||◌, List, [], ◌∷◌, ◌++◌, map, filter_map, find, Option, Some, None, is_some, option_map, sym, ◌∙◌, ap, refl, arith, subst}
+use Rattle.std.proofs.Common.{◌≡◌, zero, suc, ◌+◌, ◌≤◌, Bool, true, false, cond, ◌||◌, List, [], ◌∷◌, ◌++◌, map, filter_map, Option, Some, None, sym, ◌∙◌, ap, refl, arith, subst}
 use Rattle.std.specs.List.{IsAmong, AllByRecursion, list_all, list_any, count_by, cons_option}
 use Rattle.std.proofs.lemmas.List.Sums.{sum_by-cons, sum_by-append}
-use Rattle.aol_shape.specs.Lists.{first_some}
 use Rattle.aol_flat.proofs.Inside.{among_right}
 use Rattle.aol_flat.proofs.Once.{counted}
 use Rattle.aol_flat.proofs.Truth.{both}
-use Rattle.aol_flat.proofs.Different.{Hold, hold-parts}
-use Rattle.aol_model_types.specs.declared.place.PlaceStep.{PlaceStep}
-use Rattle.aol_model_types.specs.Places.{to_index}
-use Rattle.aol_model_types.specs.Rules.{Check, each, each_from}
 
 -- what holds of each member of a list
 pub all_among : {X : Type 0} (P : X → Type 0) (xs : List X) → ((x : X) → IsAmong xs x → P x) → AllByRecursion P xs

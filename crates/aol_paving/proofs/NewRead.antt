@@ -1,10 +1,9 @@
 -- The new repetitions are as ones that were read.
-use Rattle.std.proofs.Common.{◌≡◌, ℕ, zero, suc, ◌+◌, ◌≤◌, ◌^◌, ◌<◌, Bool, true, false, cond, List, [], ◌∷◌, ◌++◌, map, length, nat_lt, Option, Some, None, sym, ◌∙◌, ap, refl, arith, subst, inl, inr}
+use Rattle.std.proofs.Common.{◌≡◌, ℕ, zero, suc, ◌+◌, ◌≤◌, Bool, true, false, cond, List, [], ◌∷◌, ◌++◌, map, length, nat_lt, Option, Some, None, sym, ◌∙◌, ap, refl, arith, subst, inl, inr}
 use Rattle.std.specs.List.{IsAmong, AllByRecursion, list_all}
 use Rattle.std.proofs.lemmas.Bool.{ltb-false}
 use Rattle.std.proofs.lemmas.List.{length-append, length-map}
 use Rattle.std.proofs.lemmas.List.Folds.{list_all-append}
-use Rattle.aol_shape.specs.declared.limit.LimitName.{LimitName}
 use Rattle.aol_shape.specs.declared.limit.LimitName.TheVariants as limits
 use Rattle.aol_shape.specs.Lists.{first_some}
 use Rattle.aol_shape.specs.Shape.{IsShape, IsEntry}
@@ -15,9 +14,8 @@ use Rattle.aol_model_types.specs.declared.document.Model.{Model}
 use Rattle.aol_model_types.specs.declared.task.Repeated.{Repeated}
 use Rattle.aol_model_types.specs.declared.task.Task.{Task}
 use Rattle.aol_model_types.specs.declared.task.Task.TheVariants as tasks
-use Rattle.aol_model_types.specs.declared.task.TilerOn.{TilerOn}
 use Rattle.aol_model_types.specs.Reading.{max_ports}
-use Rattle.aol_model_types.specs.Rules.{task_named, inputs_of, outputs_of, inputs_named, outputs_named}
+use Rattle.aol_model_types.specs.Rules.{inputs_of, outputs_of, inputs_named}
 use Rattle.aol_model_types.specs.Types.{IsPort, IsReadPort, IsReadTask, IsTilerOn}
 use Rattle.aol_flat.proofs.Among.{among_append}
 use Rattle.aol_flat.proofs.Truth.{both}

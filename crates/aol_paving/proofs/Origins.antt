@@ -1,5 +1,5 @@
 -- Where the instances of the paved model come from.
-use Rattle.std.proofs.Common.{◌≡◌, ℕ, zero, suc, ◌+◌, ◌<◌, ◌^◌, Bool, true, false, cond, List, [], ◌∷◌, ◌++◌, length, map, flat_map, take, drop, Option, Some, None, is_some, option_map, option_and_then, slice_get, sym, ◌∙◌, ap, refl, arith, subst, append_assoc, inl, inr}
+use Rattle.std.proofs.Common.{◌≡◌, ℕ, zero, suc, ◌<◌, Bool, true, false, cond, List, [], ◌∷◌, ◌++◌, length, map, flat_map, take, drop, Option, Some, None, is_some, option_map, option_and_then, slice_get, sym, ◌∙◌, ap, refl, arith, subst, append_assoc, inl, inr}
 use Rattle.std.specs.List.{IsAmong, AllByRecursion, enumerate_from}
 use Rattle.std.proofs.Math.Seq.{take-append_seam, drop-append_seam}
 use Rattle.aol_shape.specs.Lists.{same}

@@ -6,14 +6,12 @@ use Rattle.std.proofs.lemmas.Bool.{eqb-true}
 use Rattle.std.proofs.lemmas.List.{length-append, length-map, append-nil}
 use Rattle.std.proofs.lemmas.List.Folds.{find-append}
 use Rattle.aol_shape.specs.declared.limit.LimitName.{LimitName}
-use Rattle.aol_shape.specs.Lists.{same, or_else}
+use Rattle.aol_shape.specs.Lists.{same}
 use Rattle.aol_shape.specs.Shape.{IsShape, IsEntry}
 use Rattle.aol_shape.specs.Texts.{is_name}
-use Rattle.aol_expr_tree.specs.declared.port.Port.{Port}
 use Rattle.aol_link.specs.declared.link.Interlink.{Interlink}
 use Rattle.aol_model_types.specs.declared.document.Model.{Model}
 use Rattle.aol_model_types.specs.declared.place.Key.TheVariants.{KName}
-use Rattle.aol_model_types.specs.declared.place.PlaceStep.{PlaceStep}
 use Rattle.aol_model_types.specs.declared.task.Repeated.{Repeated}
 use Rattle.aol_model_types.specs.declared.task.Task.{Task}
 use Rattle.aol_model_types.specs.declared.task.Task.TheVariants as tasks
@@ -36,7 +34,6 @@ use Rattle.aol_change.proofs.KeptTasks.{new_is_free}
 use Rattle.aol_change.proofs.KindChecks.{hold-one, to_repeated}
 use Rattle.aol_change.proofs.Room.{joined_fits, neither_limit}
 use Rattle.aol_change.proofs.StillThere.{not_among}
-use Rattle.aol_paving.specs.declared.crossing.Crossing.{Crossing}
 use Rattle.aol_paving.specs.Crossings.{crossings, input_crossings, output_crossings}
 use Rattle.aol_paving.specs.Pave.{inner_task, outer_task, inner_name, paved_model, pave_limit, tasks_limit, inner_limit, outer_limit}
 use Rattle.aol_paving.proofs.Both.{inner_holds}

@@ -1,19 +1,16 @@
 -- A repetition of repetitions in a sound model.
-use Rattle.std.proofs.Common.{◌≡◌, ℕ, zero, suc, ◌+◌, ◌<◌, ◌≤◌, Bool, true, false, List, [], ◌∷◌, ◌++◌, length, get_or, slice_get, Option, Some, None, is_some, sym, ◌∙◌, ap, refl, arith, subst}
+use Rattle.std.proofs.Common.{◌≡◌, ℕ, ◌≤◌, List, [], ◌∷◌, ◌++◌, length, slice_get, Some, sym, ◌∙◌, ap, refl, arith, subst}
 use Rattle.std.specs.Option.{option_or}
-use Rattle.std.specs.List.{IsAmong, AllByRecursion}
-use Rattle.std.proofs.lemmas.List.{append_assoc}
 use Rattle.std.proofs.lemmas.List.Folds.{find-append}
 use Rattle.aol_shape.specs.Lists.{same}
-use Rattle.aol_expr_tree.specs.declared.port.Port.{Port}
 use Rattle.aol_model_types.specs.declared.document.Model.{Model}
 use Rattle.aol_model_types.specs.declared.place.PlaceStep.{PlaceStep}
 use Rattle.aol_model_types.specs.declared.task.Repeated.{Repeated}
 use Rattle.aol_model_types.specs.declared.task.Task.{Task}
 use Rattle.aol_model_types.specs.declared.task.Task.TheVariants as tasks
-use Rattle.aol_model_types.specs.Rules.{ShapesAgree, task_name, task_named, inputs_of, outputs_of, inputs_named, outputs_named, kind_checks, is_earlier_task}
+use Rattle.aol_model_types.specs.Rules.{ShapesAgree, task_name, task_named, inputs_of, outputs_of, inputs_named, outputs_named, kind_checks}
 use Rattle.aol_flat.proofs.Among.{among_get}
-use Rattle.aol_flat.proofs.Checked.{IsTaskOf, of_repeated, task_of, task_numbered, named_earlier, sides_apart}
+use Rattle.aol_flat.proofs.Checked.{of_repeated, task_of, task_numbered, named_earlier, sides_apart}
 use Rattle.aol_flat.proofs.Different.{Hold}
 use Rattle.aol_flat.proofs.Names.{slice_get-left}
 use Rattle.aol_flat.proofs.Once.{there, found_among}

@@ -1,7 +1,6 @@
 -- The tilers on the way of a port through two levels of repetition.
-use Rattle.std.proofs.Common.{◌≡◌, ℕ, Bool, true, false, List, [], ◌∷◌, ◌++◌, Option, Some, None, is_some, option_map, option_and_then, unwrap_or, sym, ◌∙◌, ap, refl, arith, subst, ◌⊎◌, inl, inr}
+use Rattle.std.proofs.Common.{◌≡◌, ℕ, Bool, true, false, List, ◌++◌, Option, Some, None, is_some, option_map, option_and_then, sym, ◌∙◌, ap, refl, subst, ◌⊎◌, inl, inr}
 use Rattle.std.specs.List.{IsAmong}
-use Rattle.aol_shape.specs.Lists.{same}
 use Rattle.aol_tiler.specs.Tiler.{fits}
 use Rattle.aol_expr_tree.specs.declared.port.Port.{Port}
 use Rattle.aol_model_types.specs.declared.task.Repeated.{Repeated}
@@ -10,7 +9,6 @@ use Rattle.aol_model_types.specs.Rules.{port_shape, fits_in}
 use Rattle.aol_flat.specs.Home.{tiler_at}
 use Rattle.aol_flat.proofs.Checked.{named_port}
 use Rattle.aol_flat.proofs.Find.{and_then_some}
-use Rattle.aol_flat.proofs.Shapes.{shape_left, shape_right}
 use Rattle.aol_flat.proofs.TilerRules.{JoinsPorts}
 use Rattle.aol_paving.specs.declared.crossing.Crossing.{Crossing}
 use Rattle.aol_paving.specs.Crossings.{crossing_of, crossings}

@@ -1,5 +1,5 @@
 -- A paved model keeps the tasks.
-use Rattle.std.proofs.Common.{◌≡◌, ℕ, ◌^◌, ◌<◌, Bool, true, false, ◌||◌, List, [], ◌∷◌, ◌++◌, Option, Some, None, if◌then◌else◌, sym, ◌∙◌, ap, subst, refl, arith}
+use Rattle.std.proofs.Common.{◌≡◌, ℕ, ◌^◌, ◌<◌, Bool, true, false, ◌||◌, List, [], ◌∷◌, Option, Some, None, if◌then◌else◌, sym, ◌∙◌, ap, subst, refl, arith}
 use Rattle.aol_shape.specs.Lists.{same}
 use Rattle.aol_model_types.specs.declared.document.Model.{Model}
 use Rattle.aol_model_types.specs.declared.task.Repeated.{Repeated}
@@ -12,8 +12,7 @@ use Rattle.aol_change.specs.Change.{Changed, Refused, KeepsTasks, bounded, withi
 use Rattle.aol_change.specs.UnblockedParts.{HaveRank}
 use Rattle.aol_change.proofs.ChangedTasks.{within_changed, bounded_changed}
 use Rattle.aol_change.proofs.KeptTasks.{apart_from_main, keeps_tasks}
-use Rattle.aol_paving.specs.Crossings.{input_crossings, output_crossings}
-use Rattle.aol_paving.specs.Pave.{pave, paved_model, paved_task, paved_levels, pave_limit, inner_task, outer_task, inner_name, PavedKeepsTasks}
+use Rattle.aol_paving.specs.Pave.{pave, paved_model, paved_task, paved_levels, pave_limit, paved_inner, paved_outer, inner_name, PavedKeepsTasks}
 use Rattle.aol_paving.proofs.Sound.{no_links, ranks}
 
 -- the task is a repetition of repetitions without links, the spaces have its rank, and the new model is the paved one
@@ -83,8 +82,8 @@ paved_keeps_tasks m next name outer block sound h =
     let t : Repeated = p.task in
     let u : Repeated = p.inner in
     subst (KeepsTasks m) (sym p.is)
-    (keeps_tasks m name (tasks.Repeated (inner_task u (input_crossings m t u) (output_crossings m t u) (block ++ u.space) (inner_name m t)) ∷ []) (tasks.Repeated t)
-    (tasks.Repeated (outer_task t (input_crossings m t u ++ output_crossings m t u) outer block (inner_name m t))) p.found refl (λ rest. refl) refl refl refl (one_apart m t.name sound))
+    (keeps_tasks m name (tasks.Repeated (paved_inner m t u block (inner_name m t)) ∷ []) (tasks.Repeated t)
+    (tasks.Repeated (paved_outer m t u outer block (inner_name m t))) p.found refl (λ rest. refl) refl refl refl (one_apart m t.name sound))
 
 -- so does the model that the code lays out
 pub laid_keeps : (m model next laid : Model) (name outer block : List ℕ) → model ≡ m → IsSound m → paved_task model (task_named model.tasks name) outer block ≡ Changed next → laid ≡ next

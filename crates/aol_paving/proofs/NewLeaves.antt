@@ -33,9 +33,8 @@ use Rattle.aol_change.specs.Change.{put_before, is_taken, is_named}
 use Rattle.aol_change.proofs.Below.{own_name}
 use Rattle.aol_change.proofs.KeptTasks.{main_there, new_is_free}
 use Rattle.aol_change.proofs.StillThere.{not_among}
-use Rattle.aol_paving.specs.Crossings.{input_crossings, output_crossings}
 use Rattle.aol_paving.specs.Leaves.{is_at, is_body_of, new_node, new_leaf, PavedLeaves}
-use Rattle.aol_paving.specs.Pave.{paved_model, inner_task, outer_task, inner_name}
+use Rattle.aol_paving.specs.Pave.{paved_model, paved_inner, paved_outer, inner_name}
 
 -- ---- looking up
 
@@ -371,8 +370,8 @@ free_new m t sound =
 pub paved_leaves : PavedLeaves
 paved_leaves m t u outer block sound next_sound named below =
     let free : is_some (task_named m.tasks (inner_name m t)) ≡ false = free_new m t sound in
-    let one : Repeated = inner_task u (input_crossings m t u) (output_crossings m t u) (block ++ u.space) (inner_name m t) in
-    let all : Repeated = outer_task t (input_crossings m t u ++ output_crossings m t u) outer block (inner_name m t) in
+    let one : Repeated = paved_inner m t u block (inner_name m t) in
+    let all : Repeated = paved_outer m t u outer block (inner_name m t) in
     let next : Model = paved_model m t u outer block in
     let main = there (main_task m) (main_there m sound.shapes) in
     let order : StandOnEarlier next.tasks = stand_on_earlier next next_sound.shapes in

@@ -32,9 +32,8 @@ use Rattle.aol_change.specs.UnblockedParts.{HaveRank}
 use Rattle.aol_change.proofs.Below.{own_name, node_named, listed_form, before_named, before_other, is_task}
 use Rattle.aol_change.proofs.ComesFrom.{ComesFrom, whole, map_of}
 use Rattle.aol_change.proofs.NodeFrom.{NodeFrom, as_before, in_blocks, into_part, into_body, leaf_from, kind_kept, alike}
-use Rattle.aol_paving.specs.Crossings.{input_crossings, output_crossings}
 use Rattle.aol_paving.specs.Leaves.{is_at, is_body_of, new_node, new_leaf}
-use Rattle.aol_paving.specs.Pave.{paved_model, inner_task, outer_task, inner_name, unpave, pave_origin}
+use Rattle.aol_paving.specs.Pave.{paved_model, paved_inner, paved_outer, inner_name, unpave, pave_origin}
 use Rattle.aol_paving.proofs.NewLeaves.{free_new, in_next, one_in_next, apart_from_new, numbered_there, inner_other, paved_leaves}
 
 -- ---- one step back
@@ -107,10 +106,10 @@ module _ (m : Model) (t u : Repeated) (outer block : List ℕ) (sound : IsSound 
   name = inner_name m t
 
   abbrev one : Repeated
-  one = inner_task u (input_crossings m t u) (output_crossings m t u) (block ++ u.space) (inner_name m t)
+  one = paved_inner m t u block (inner_name m t)
 
   abbrev all : Repeated
-  all = outer_task t (input_crossings m t u ++ output_crossings m t u) outer block (inner_name m t)
+  all = paved_outer m t u outer block (inner_name m t)
 
   abbrev moved : Node → Node
   moved = new_node m t.name outer block

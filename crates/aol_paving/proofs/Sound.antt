@@ -35,7 +35,7 @@ use Rattle.aol_change.proofs.KindChecks.{hold-one, to_repeated}
 use Rattle.aol_change.proofs.Room.{joined_fits, neither_limit}
 use Rattle.aol_change.proofs.StillThere.{not_among}
 use Rattle.aol_paving.specs.Crossings.{crossings, input_crossings, output_crossings}
-use Rattle.aol_paving.specs.Pave.{inner_task, outer_task, inner_name, paved_model, pave_limit, tasks_limit, inner_limit, outer_limit}
+use Rattle.aol_paving.specs.Pave.{inner_task, outer_task, inner_name, paved_inner, paved_outer, paved_model, pave_limit, tasks_limit, inner_limit, outer_limit}
 use Rattle.aol_paving.proofs.Both.{inner_holds}
 use Rattle.aol_paving.proofs.NewOuter.{outer_holds}
 use Rattle.aol_paving.proofs.NewNames.{numbered_is_name, free_number_le}
@@ -103,10 +103,10 @@ module _ (m : Model) (t u : Repeated) (outer block : List ℕ) (sound : IsSound 
   space = block ++ u.space
 
   abbrev one : Task
-  one = tasks.Repeated (inner_task u (input_crossings m t u) (output_crossings m t u) space name)
+  one = tasks.Repeated (paved_inner m t u block name)
 
   abbrev all : Task
-  all = tasks.Repeated (outer_task t (input_crossings m t u ++ output_crossings m t u) outer block name)
+  all = tasks.Repeated (paved_outer m t u outer block name)
 
   free : is_taken (taken_names m []) name ≡ false
   free = let none : 0 < 2 ^ 32 = omega arith in new_is_free m [] t.name sound none

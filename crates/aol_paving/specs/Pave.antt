@@ -54,19 +54,18 @@ outer_task t cs outer block name = filled_outer t block cs (record { name = t.na
 abbrev pub inner_name : Model → Repeated → List ℕ
 inner_name m t = new_name m [] t.name
 
--- both, the outer one first, with the inner one under this name
-abbrev pub paved_tasks : Model → Repeated → Repeated → List ℕ → List ℕ → List ℕ → List Task
-paved_tasks m t u outer block name =
-    let ins = input_crossings m t u in
-    let outs = output_crossings m t u in
-    tasks.Repeated (outer_task t (ins ++ outs) outer block name) ∷ tasks.Repeated (inner_task u ins outs (block ++ u.space) name) ∷ []
+-- the inner repetition of the paved model, under this name
+abbrev pub paved_inner : Model → Repeated → Repeated → List ℕ → List ℕ → Repeated
+paved_inner m t u block name = inner_task u (input_crossings m t u) (output_crossings m t u) (block ++ u.space) name
+
+-- the outer one, over tasks of this name
+abbrev pub paved_outer : Model → Repeated → Repeated → List ℕ → List ℕ → List ℕ → Repeated
+paved_outer m t u outer block name = outer_task t (input_crossings m t u ++ output_crossings m t u) outer block name
 
 -- the model with both
 abbrev pub paved_model : Model → Repeated → Repeated → List ℕ → List ℕ → Model
 paved_model m t u outer block =
-    let ins = input_crossings m t u in
-    let outs = output_crossings m t u in
-    changed_model m t.name (tasks.Repeated (inner_task u ins outs (block ++ u.space) (inner_name m t)) ∷ []) (tasks.Repeated (outer_task t (ins ++ outs) outer block (inner_name m t)))
+    changed_model m t.name (tasks.Repeated (paved_inner m t u block (inner_name m t)) ∷ []) (tasks.Repeated (paved_outer m t u outer block (inner_name m t)))
 
 -- ---- limits and causes
 

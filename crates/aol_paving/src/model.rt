@@ -10,7 +10,7 @@ ghost use Rattle.aol_change.specs.Change.{within_limits, joined_limit, have_rank
 ghost use Rattle.aol_change.specs.Blocks.{IsEmptyBlock};
 ghost use Rattle.aol_change.specs.Made.{IsWithin, IsStep};
 ghost use Rattle.aol_paving.specs.Crossings.{input_crossings, output_crossings};
-ghost use Rattle.aol_paving.specs.Pave.{whole_port, whole_tiler, filled_inner, inner_task, outer_tiler, filled_outer, outer_task, whole_limit, inner_limit, crossing_limit, outer_limit, tasks_limit, pave_limit, paved_model, paved_tasks, paved_levels, paved_task};
+ghost use Rattle.aol_paving.specs.Pave.{whole_port, whole_tiler, filled_inner, inner_task, outer_tiler, filled_outer, outer_task, whole_limit, inner_limit, crossing_limit, outer_limit, tasks_limit, pave_limit, paved_inner, paved_outer, paved_model, paved_levels, paved_task};
 ghost use Rattle.aol_paving.specs.Paving.{HasRoom, Meet, CanCross};
 
 use crate::crossing::{Crossing, push_inputs, push_outputs};
@@ -264,7 +264,7 @@ fn push_tasks(
     requires plain { task.now.links ≡ [] }
     requires inner_plain { inner.now.links ≡ [] }
     requires rank { have_rank task.now args.now.outer args.now.block ≡ true }
-    ensures made { OnOk result (put.new ≡ put.old ++ paved_tasks model.now task.now inner.now args.now.outer args.now.block name.now) }
+    ensures made { OnOk result (put.new ≡ put.old ++ tasks.Repeated (paved_outer model.now task.now inner.now args.now.outer args.now.block name.now) ∷ tasks.Repeated (paved_inner model.now task.now inner.now args.now.block name.now) ∷ []) }
     ensures limit { IsWithin result (tasks_limit args.now.block inner.now.space (input_crossings model.now task.now inner.now) (output_crossings model.now task.now inner.now)) }
 {
     let innermost = task_named(model.tasks.as_slice(), &inner.task);

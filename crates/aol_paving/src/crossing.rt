@@ -4,7 +4,6 @@ ghost use Rattle.std.specs.Prelude.{◌≡◌, ◌++◌, [], ◌∷◌, map, IfO
 ghost use Rattle.std.specs.Option.{option_copied};
 ghost use Rattle.aol_flat.specs.Home.{tiler_at};
 ghost use Rattle.aol_change.specs.Blocks.{inputs_in, outputs_in};
-ghost use Rattle.aol_model_types.specs.Rules.{outputs_of};
 ghost use Rattle.aol_paving.specs.Crossings.{crossings};
 
 use crate::tilers::copied;

@@ -1,6 +1,6 @@
 //! The paved model laid out.
 
-ghost use Rattle.std.specs.Prelude.{◌≡◌, ◌⊎◌, Some, IfOk, IfErr};
+ghost use Rattle.std.specs.Prelude.{◌≡◌, ◌⊎◌, IfOk, IfErr};
 ghost use Rattle.aol_model_types.specs.Rules.{task_named};
 ghost use Rattle.aol_flat.specs.Accept.{IsFlat};
 ghost use Rattle.aol_flat.specs.Keep.{AreAlike};

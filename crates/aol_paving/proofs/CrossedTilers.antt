@@ -1,5 +1,5 @@
 -- The tilers that are made of both levels fit where they are put.
-use Rattle.std.proofs.Common.{◌≡◌, ℕ, zero, suc, ◌+◌, ◌-◌, ◌≤◌, Bool, true, false, ◌&&◌, ◌==◌, nat_le, cond, ℤ, List, [], ◌∷◌, ◌++◌, length, map, take, drop, Option, Some, None, is_some, sym, ◌∙◌, ap, refl, arith}
+use Rattle.std.proofs.Common.{◌≡◌, ℕ, zero, suc, ◌+◌, ◌≤◌, Bool, true, false, ◌&&◌, ◌==◌, nat_le, cond, ℤ, List, [], ◌∷◌, ◌++◌, length, map, take, drop, Option, Some, None, is_some, sym, ◌∙◌, ap, refl, arith}
 use Rattle.std.specs.Prelude.{nat_abs}
 use Rattle.std.specs.List.{AllByRecursion, list_all}
 use Rattle.std.proofs.lemmas.Bool.{eqb-true, eq-eqb, leb-true}
@@ -7,7 +7,6 @@ use Rattle.std.proofs.lemmas.List.{length-append, length-map, append_assoc}
 use Rattle.std.proofs.lemmas.List.Folds.{list_all-append}
 use Rattle.aol_shape.specs.declared.limit.LimitName.TheVariants as limits
 use Rattle.aol_shape.specs.Vectors.{IsVector, IsVectorEntry, plus, times, plus_columns, max_entry}
-use Rattle.aol_tiler.specs.Makers.{IsBlockable}
 use Rattle.aol_tiler.specs.Matrices.{TilerOf}
 use Rattle.aol_tiler.specs.Tiler.{IsTiler, has_entries, fits, composed, flat, zero_like, first_out_of, first_entry_out}
 use Rattle.aol_change.specs.Change.{tiler_limit}
@@ -172,23 +171,4 @@ can_cross c inner block m few =
       composable = record { outer_even = m.outer_even; inner_even = m.inner_even; paving_room = omega (arith, long, a, b, few) };
       block_rank = m.block_rank;
       room = omega (arith, long, a, b, d, few);
-    }
-
--- the composition can be turned and put in blocks
-pub can_turn : (c : Crossing) (block : List ℕ) → CanCross block c → (length block ≤ length (composed c.outer.tiler c.inner.tiler).paving) × (length (composed c.outer.tiler c.inner.tiler).paving + length (composed c.outer.tiler c.inner.tiler).fitting ≤ 12)
-can_turn c block can =
-    let moved : List (List ℤ) = map (plus_columns (zero_like c.outer.tiler.origin) c.outer.tiler.fitting) c.inner.tiler.paving in
-    let a = length-append c.outer.tiler.paving moved in
-    let b = length-map c.inner.tiler.paving (plus_columns (zero_like c.outer.tiler.origin) c.outer.tiler.fitting) in
-    let d = length-map c.inner.tiler.fitting (plus_columns (zero_like c.outer.tiler.origin) c.outer.tiler.fitting) in
-    let r : length block ≡ length c.outer.tiler.paving = can.block_rank in
-    let room : length c.outer.tiler.paving + length c.inner.tiler.paving + length c.inner.tiler.fitting ≤ 12 = can.room in
-    (omega (arith, a, r), omega (arith, a, b, d, room))
-
-pub can_block : (t : TilerOf) (many : ℕ) (block : List ℕ) → many ≡ length block → many ≤ length t.paving → length t.paving + length t.fitting ≤ 12 → IsBlockable (with_pattern many t) block
-can_block t many block is low few =
-    let long : length t.paving ≡ many + (length t.paving - many) = omega (arith, low) in
-    record {
-      block_rank = sym (take_long many t.paving low ∙ is);
-      fitting_room = omega (arith, take_long many t.paving low, length-append (drop many t.paving) t.fitting, drop_long many t.paving (length t.paving - many) long, long, few);
     }

@@ -2,7 +2,6 @@ pub mod Lists
 pub mod Members
 pub mod NewNames
 pub mod ReadPorts
-pub mod Told
 pub mod Levels
 pub mod Ways
 pub mod CrossedTilers

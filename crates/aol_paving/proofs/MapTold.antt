@@ -31,9 +31,6 @@ is_of m next name outer block t h found =
     let same_task : s.task ≡ t = cc in
     subst (IsOf m next name outer block) same_task (record { inner = s.inner; below = s.below; rank = s.rank; is = s.is })
 
-pub rank_told : (m next : Model) (name outer block : List ℕ) (t : Repeated) → pave m name outer block ≡ Changed next → task_named m.tasks name ≡ Some (tasks.Repeated t) → HaveRank t.space outer block
-rank_told m next name outer block t h found = (is_of m next name outer block t h found).rank
-
 -- the old numbers are the map, and the models are alike
 pub map_told : (m next : Model) (name outer block old_of : List ℕ) (t : Repeated) → IsSound m → IsSound next → pave m name outer block ≡ Changed next → task_named m.tasks name ≡ Some (tasks.Repeated t)
     → old_of ≡ old_numbers m t outer block → IsMapOf m next (paved_from (task_named m.tasks name) m block next) old_of × AreAlike m next old_of

@@ -75,6 +75,9 @@ at_rank place x p e h = go (nat_lt x (size p.shape)) refl h
     go true f g = let is : e ≡ record { place = place; port = p.name; index = point_at p.shape x } = cc in (ltb-true x (size p.shape) f, is)
     go false f g = cc
 
+pub ranked_there : (place : Place) (p : Port) (x : ℕ) → x < size p.shape → element_of_port place x p ≡ Some (record { place = place; port = p.name; index = point_at p.shape x })
+ranked_there place p x lt = ap (λ b. cond b (Some (record { place = place; port = p.name; index = point_at p.shape x })) None) (lt-ltb x (size p.shape) lt)
+
 -- an output of a run by port and rank
 pub record IsOutputAt (m : Model) (k x : ℕ) (e : Element) (place : Place) : Type 0 where
   pub output : ElementaryOutput m e

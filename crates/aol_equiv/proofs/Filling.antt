@@ -347,7 +347,7 @@ module _ (f : Laid) (sound : IsSound f.model) (laid : IsLaid f) (n : ℕ) (place
 
 -- ---- one instance more, by what it is
 
-aligned_length : (who : _) (rs : List Reading) (ps : List (ℕ × ℕ)) (es : List Element) → Aligned who rs ps es → length ps ≡ length es
+pub aligned_length : (who : _) (rs : List Reading) (ps : List (ℕ × ℕ)) (es : List Element) → Aligned who rs ps es → length ps ≡ length es
 aligned_length who [] [] [] a = refl
 aligned_length who [] (q ∷ ps) es a = absurd a
 aligned_length who [] [] (x ∷ es) a = absurd a

@@ -1,13 +1,14 @@
 -- The first read that isn't kept, instance by instance and then among the main outputs.
 use Rattle.std.proofs.Common.{◌≡◌, ℕ, zero, suc, ◌+◌, ◌<◌, List, [], ◌∷◌, ◌++◌, length, flat_map, take, get_or, Option, Some, None, slice_get, option_and_then, sym, ◌∙◌, ap, refl, arith, ◌⊎◌, inl, inr, subst}
 use Rattle.std.specs.Prelude.{slice_index, IsSome}
-use Rattle.std.specs.List.{IsAmong, AllZip, AllByRecursion, enumerate_from}
+use Rattle.std.specs.List.{IsAmong, AllZip, AllByRecursion, enumerate_from, sum}
 use Rattle.std.proofs.lemmas.List.{take_all}
 use Rattle.std.proofs.lemmas.Option.{slice_get_within}
 use Rattle.aol_model_types.specs.declared.document.Model.{Model}
 use Rattle.aol_flat.specs.Tasks.{main_outputs}
 use Rattle.aol_flat.specs.Place.{Element, IsElement, elements_of}
 use Rattle.aol_flat.specs.Instance.{Instance, instances, places_of_sizes, port_sizes, read_sizes, read_elements}
+use Rattle.aol_flat.specs.InstanceNeed.{IsReal}
 use Rattle.aol_flat.specs.Keep.{EndsAt, old_end, old_read, SameEnd, Keeps, reading_before, ReadingIsKept}
 use Rattle.aol_flat.specs.Laid.{Laid, IsReadOf, main_input_elements, main_output_elements}
 use Rattle.aol_flat.specs.Reads.{Reading, instance_readings, main_readings, readings, IsFirstFailing, by_caller}
@@ -33,8 +34,8 @@ use Rattle.aol_equiv.specs.declared.compare.Sides.{Sides}
 use Rattle.aol_equiv.specs.Answers.{LostIs}
 use Rattle.aol_equiv.specs.Compared.{AreCompared, AreKeptBefore, IsKeptAt, IsFirstAt, TellsFirst}
 use Rattle.aol_equiv.specs.Leads.{end_of, IsKeptRead}
-use Rattle.aol_equiv.proofs.Befores.{old_at}
-use Rattle.aol_equiv.proofs.Filling.{zip_get, get_zip, zip_length}
+use Rattle.aol_equiv.proofs.Befores.{old_at, same_sizes}
+use Rattle.aol_equiv.proofs.Filling.{aligned_length, zip_get, get_zip, zip_length}
 use Rattle.aol_equiv.proofs.ReadEnds.{read_ends, instance_reads}
 
 -- ---- the first that fails
@@ -64,7 +65,7 @@ first_front P xs ys y f = record {
 }
 
 -- what stands at a place of a list
-there_at : {X : Type 0} (xs : List X) (k : ℕ) → k < length xs → (x : X) × (slice_get xs k ≡ Some x)
+pub there_at : {X : Type 0} (xs : List X) (k : ℕ) → k < length xs → (x : X) × (slice_get xs k ≡ Some x)
 there_at [] k lt = absurd (omega (arith, lt))
 there_at (x ∷ xs) zero lt = (x, refl)
 there_at (x ∷ xs) (suc k) lt = there_at xs k (omega (arith, lt))
@@ -162,8 +163,7 @@ module _ (s : Sides) (known : AreCompared s) where
         let there : slice_get rs number ≡ Some r = aligned_get who rs ps es line number z.0 p z.1 place in
         let o = olds number r there in
         let both : Some o.read ≡ Some first.read = sym o.at ∙ first.at in
-        let one : o.read ≡ first.read = cc in
-        (
+        let one : o.read ≡ first.read = cc in (
           r,
           record {
             number = number;
@@ -181,15 +181,33 @@ module _ (s : Sides) (known : AreCompared s) where
 
   -- ---- an instance
 
+  -- an instance with its old one
+  pub record AtInstance (j : ℕ) : Type 0 where
+    pub instance : Instance
+    pub at : slice_get (instances new) j ≡ Some instance
+    pub old_instance : Instance
+    pub at_old : slice_get (instances old) (slice_index old_of j) ≡ Some old_instance
+
+  pub at_instance : (j : ℕ) → j < length (instances new) → AtInstance j
+  at_instance j lt = let kind = known.comparable.alike.kinds j lt in record { instance = kind.new_instance; at = kind.at_new; old_instance = kind.old_instance; at_old = kind.at_old }
+
   module _ (j : ℕ) (i : Instance) (at : slice_get (instances new) j ≡ Some i) (o : Instance) (at_old : slice_get (instances old) (slice_index old_of j) ≡ Some o) where
     lined : Aligned (ByInstance j) (instance_readings new (j, i)) (places_of_sizes 0 (read_sizes new i)) (read_elements new i)
     lined = instance_aligned new j i (listed_of new known.new_flat.sound j i at)
 
-    abbrev real : _
+    real : IsReal new i
     real = sound_is_real new known.new_flat.sound j i at
 
-    abbrev real_old : _
+    real_old : IsReal old o
     real_old = sound_is_real old known.old_flat.sound (slice_index old_of j) o at_old
+
+    -- its reads have as many places
+    pub spot_reads : length (places_of_sizes 0 (read_sizes new i)) ≡ length (read_elements new i)
+    spot_reads = aligned_length (ByInstance j) (instance_readings new (j, i)) (places_of_sizes 0 (read_sizes new i)) (read_elements new i) lined
+
+    -- the old instance reads as many
+    pub read_count : (n : ℕ) → n ≡ sum (read_sizes new i) → n ≡ sum (read_sizes old o)
+    read_count n h = h ∙ ap sum (sym (same_sizes old new old_of known.comparable.alike j i o at at_old real real_old))
 
     pub exist_there : (p : Element) → IsAmong (read_elements new i) p → IsElement new p
     exist_there p a = read_there new known.new_flat.sound i real p a
@@ -229,7 +247,7 @@ module _ (s : Sides) (known : AreCompared s) where
               let e = read_ends old known.old_flat.sound known.comparable.accepted z.0 (instance_reads old o real_old z.0 b) in
               let h = (known.old_is.each z.0 q (read_there old known.old_flat.sound o real_old z.0 b) z.2 e.0).1 e.1 in
               let P : Option End → Type 0 = λ x. IsSome x in
-              subst P (sym h) tt
+              subst P (sym h) refl
 
       module _ (taken : List Read) (zip : AllZip (IsReadOf s.new.now) (read_elements new i) taken) (so_far : AreKeptBefore s j) where
         under : j < length (instances new)
@@ -322,7 +340,7 @@ module _ (s : Sides) (known : AreCompared s) where
             let e = old_ends z.0 b in
             let h = (known.old_is.each z.0 q (old_exist z.0 b) z.2 e.0).1 e.1 in
             let P : Option End → Type 0 = λ x. IsSome x in
-            subst P (sym h) tt
+            subst P (sym h) refl
 
     module _ (so_far : AreKeptBefore s (length (instances new))) where
       abbrev all_before : List Reading
@@ -366,3 +384,9 @@ module _ (s : Sides) (known : AreCompared s) where
             same_port = sym h.3;
             same_point = sym h.4;
           }
+
+-- a port and a rank of a list
+pub spot_got : (spots : List (ℕ × ℕ)) (k : ℕ) → k < length spots → slice_get spots k ≡ Some ((get_or spots k (0, 0)).0, (get_or spots k (0, 0)).1)
+spot_got [] k lt = absurd (omega (arith, lt))
+spot_got (p ∷ spots) zero lt = refl
+spot_got (p ∷ spots) (suc k) lt = spot_got spots k (omega (arith, lt))

@@ -1,7 +1,7 @@
 -- An instance by its number: its leaf, and what a cursor over that leaf reads.
 use Rattle.std.proofs.Common.{◌≡◌, ℕ, zero, suc, ◌+◌, ◌-◌, ◌<◌, List, [], ◌∷◌, ◌++◌, length, take, get_or, Some, slice_get, sym, ◌∙◌, ap, refl, arith, ◌⊎◌, inl, inr, subst}
 use Rattle.std.specs.Prelude.{replicate}
-use Rattle.std.proofs.lemmas.List.{take_all, length-append}
+use Rattle.std.proofs.lemmas.List.{take_all, length-append, append_assoc}
 use Rattle.std.proofs.lemmas.Option.{slice_get_within}
 use Rattle.aol_model_types.specs.declared.document.Model.{Model}
 use Rattle.aol_flat.specs.Cursor.{CursorOf, IsReadCount}
@@ -65,6 +65,13 @@ on_leaf m n list h i lt = h.each i (get_or list i 0) (there list i (omega (arith
     there [] i lt = absurd (omega (arith, lt))
     there (x ∷ xs) zero lt = refl
     there (x ∷ xs) (suc i) lt = there xs i (omega (arith, lt))
+
+pub replicate_more : (n x : ℕ) → replicate (n + 1) x ≡ replicate n x ++ x ∷ []
+replicate_more zero x = refl
+replicate_more (suc n) x = let one : suc n + 1 ≡ suc (n + 1) = omega arith in ap (λ k. replicate k x) one ∙ ap (λ xs. x ∷ xs) (replicate_more n x)
+
+pub leaf_added : (old now new : List ℕ) (n x : ℕ) → now ≡ old ++ replicate n x → new ≡ now ++ x ∷ [] → new ≡ old ++ replicate (n + 1) x
+leaf_added old now new n x so_far more = more ∙ (ap (λ xs. xs ++ x ∷ []) so_far ∙ (append_assoc old (replicate n x) (x ∷ []) ∙ ap (λ xs. old ++ xs) (sym (replicate_more n x))))
 
 -- ---- a cursor over a leaf
 

@@ -27,7 +27,6 @@ use Rattle.aol_assign.proofs.LeafNumbers.{leaf_task, instance_there}
 use Rattle.aol_equiv.specs.Table.{IsOfKind}
 use Rattle.aol_flat_laws.proofs.NodeTasks.{HasSpaces, task_on}
 
-
 -- a task that is found under a name has a number under its own
 named_number : (m : Model) (t : Task) (name : List ℕ) → task_named m.tasks name ≡ Some t → (k : ℕ) × (number_named m.tasks (task_name t) ≡ Some k) × (slice_get m.tasks k ≡ Some t)
 named_number m t name h = go (number_named m.tasks (task_name t)) refl

@@ -10,7 +10,7 @@ use Rattle.aol_flat.specs.Instance.{places_of_sizes, port_sizes}
 use Rattle.aol_flat.specs.declared.view.Read.{Read}
 use Rattle.aol_flat.specs.declared.view.Read.TheVariants.{Cell}
 use Rattle.aol_assign.specs.Holes.{cells_from}
-use Rattle.aol_assign.proofs.ReadingPlaces.{pair}
+use Rattle.aol_assign.proofs.ReadingPlaces.{pair, number_count}
 
 -- one number more
 pub numbers_more : (a n : ℕ) → numbers_from a (n + 1) ≡ numbers_from a n ++ (a + n) ∷ []
@@ -77,3 +77,6 @@ out_added outs i o lt is now new so_far more =
 pub cell_added : (first n : ℕ) (now new : List Read) → now ≡ cells_from first n → new ≡ now ++ Cell (first + n) ∷ [] → new ≡ cells_from first (n + 1)
 cell_added first n now new so_far more =
     more ∙ (ap (λ xs. xs ++ Cell (first + n) ∷ []) so_far ∙ sym (ap (map (λ c. Cell c)) (numbers_more first n) ∙ map-append (λ c. Cell c) (numbers_from first n) ((first + n) ∷ [])))
+
+pub cell_count : (first n : ℕ) → length (cells_from first n) ≡ n
+cell_count first n = length-map (numbers_from first n) (λ c. Cell c) ∙ number_count first n

@@ -5,6 +5,8 @@ ghost use Rattle.std.specs.List.{AllByRecursion};
 ghost use Rattle.aol_flat.specs.Instance.{leaves, instances, places_of_sizes, port_sizes};
 ghost use Rattle.aol_flat.specs.Leaves.{IsLeafRow, instances_of};
 ghost use Rattle.aol_flat.specs.LeafCursor.{reads_each};
+ghost use Rattle.aol_flat.specs.Laid.{main_input_elements};
+ghost use Rattle.aol_flat.specs.Tasks.{main_outputs};
 ghost use Rattle.aol_assign.specs.Holes.{cells_from};
 ghost use Rattle.aol_equiv.specs.Leads.{end_of};
 ghost use Rattle.aol_equiv.specs.Compared.{AreCompared, AreKeptBefore, TellsFirst, HasReadSpots, EndsKept, EndsAll};
@@ -137,7 +139,8 @@ fn read_spots(alloc: Global, flat: &Flat, leaf: u32) -> Result<Vec<Spot>, AllocE
     match flat.leaf(leaf).kind {
         LeafKind::Elementary(task) => input_spots(alloc, &model.tasks.as_slice()[task as usize]),
         LeafKind::Copy => {
-            let spots = vec![in alloc; (0, 0); 1]?;
+            let mut spots = Vec::new(alloc);
+            spots.push((0, 0))?;
             Ok(spots)
         }
     }
@@ -193,17 +196,28 @@ fn cells_after(alloc: Global, first: u32, count: u32) -> Result<Vec<Read>, Alloc
     Ok(reads)
 }
 
-/// Tests the main outputs, which are the cells after the main inputs in both models.
-fn test_main(sides: &Sides) -> Result<(), Lost>
+/// How many elements the main inputs have.
+fn main_input_count(alloc: Global, flat: &Flat) -> Result<u32, AllocError>
+    requires { length flat.now.cells < 2 ^ 32 }
+    ensures { IfOk result (λ n. n ≡ length (main_input_elements flat.now.model)) }
+{
+    let spots = main_input_spots(alloc, flat.model())?;
+    let spots = spots.as_slice();
+    Ok(spots.len() as u32)
+}
+
+/// Tests the main outputs, which have the cells after the main inputs in both models.
+fn test_outputs(sides: &Sides, inputs: u32, spots: &[Spot]) -> Result<(), Lost>
     requires compared { AreCompared sides.now }
     requires few { length sides.now.new.now.cells < 2 ^ 32 }
     requires kept { AreKeptBefore sides.now (length (instances sides.now.new.now.model)) }
+    requires inputs { inputs ≡ length (main_input_elements sides.now.new.now.model) }
+    requires spots { spots.now ≡ places_of_sizes 0 (port_sizes (main_outputs sides.now.new.now.model)) }
     ensures { EndsAll sides.now result }
 {
-    let inputs = main_input_spots(sides.alloc, sides.new.model())?;
-    let spots = main_output_spots(sides.alloc, sides.new.model())?;
-    let cells = cells_after(sides.alloc, inputs.len() as u32, spots.len() as u32)?;
-    match first_lost(sides, cells.as_slice(), cells.as_slice()) {
+    let cells = cells_after(sides.alloc, inputs, spots.len() as u32)?;
+    let reads = cells.as_slice();
+    match first_lost(sides, reads, reads) {
         None => Ok(()),
         Some((lost, required)) => {
             let (port, point) = spots[lost as usize];
@@ -215,6 +229,18 @@ fn test_main(sides: &Sides) -> Result<(), Lost>
             })
         }
     }
+}
+
+/// Tests the main outputs.
+fn test_main(sides: &Sides) -> Result<(), Lost>
+    requires compared { AreCompared sides.now }
+    requires few { length sides.now.new.now.cells < 2 ^ 32 }
+    requires kept { AreKeptBefore sides.now (length (instances sides.now.new.now.model)) }
+    ensures { EndsAll sides.now result }
+{
+    let inputs = main_input_count(sides.alloc, sides.new)?;
+    let spots = main_output_spots(sides.alloc, sides.new.model())?;
+    test_outputs(sides, inputs, spots.as_slice())
 }
 
 /// Tests the reads of all instances, and then the main outputs.

@@ -49,6 +49,19 @@ fn lead_all(alloc: Global, flat: &Flat, leads: &mut [Lead]) -> Result<(), NoMemo
     Ok(())
 }
 
+/// Finds where the cells end.
+fn find_ends(alloc: Global, flat: &Flat, leads: &mut [Lead]) -> Result<(), NoMemory>
+    requires flat { IsFlat flat.now }
+    requires single { IsSingleAssignment flat.now.model }
+    requires none { HasLeads flat.now 0 leads.old }
+    requires few { length leads.old < 2 ^ 32 }
+    ensures { OnOk result (AreEnds flat.now leads.new) }
+{
+    lead_all(alloc, flat, leads)?;
+    resolve(alloc, leads)?;
+    Ok(())
+}
+
 /// Where each cell of the model ends, and with it each read: a copy's cell where its source does.
 pub fn ends_of(alloc: Global, flat: &Flat) -> Result<Vec<Lead>, NoMemory>
     requires { IsSingleAssignment flat.now.model }
@@ -56,7 +69,6 @@ pub fn ends_of(alloc: Global, flat: &Flat) -> Result<Vec<Lead>, NoMemory>
 {
     flat.model();
     let mut leads = unknown(alloc, flat.cells() as usize)?;
-    lead_all(alloc, flat, &mut leads)?;
-    resolve(alloc, &mut leads)?;
+    find_ends(alloc, flat, &mut leads)?;
     Ok(leads)
 }

@@ -1,12 +1,9 @@
 -- What the old instance reads in place of a read of the new one.
-use Rattle.std.proofs.Common.{◌≡◌, ℕ, zero, suc, List, [], ◌∷◌, length, map, Option, Some, None, slice_get, option_map, sym, ◌∙◌, ap, refl, subst}
+use Rattle.std.proofs.Common.{◌≡◌, ℕ, zero, suc, List, [], ◌∷◌, Some, slice_get, option_map, sym, ◌∙◌, ap, refl}
 use Rattle.std.specs.Prelude.{slice_index}
-use Rattle.std.specs.List.{IsAmong}
-use Rattle.std.proofs.lemmas.List.{length-map}
 use Rattle.std.proofs.lemmas.Option.{slice_get_within}
 use Rattle.aol_model_types.specs.declared.document.Model.{Model}
 use Rattle.aol_model_types.specs.declared.task.Elementary.{Elementary}
-use Rattle.aol_model_types.specs.declared.task.Task.TheVariants as tasks
 use Rattle.aol_model_types.specs.Rules.{task_name, inputs_of}
 use Rattle.aol_flat.specs.Place.{Place, Element, task_at, elements_of}
 use Rattle.aol_flat.specs.Instance.{Instance, Run, Copy, instances, read_elements, read_sizes, copy_end, copy_source, port_sizes}

@@ -1,5 +1,5 @@
 -- Where reading an element ends by the leads of cells, that element ends, and the other way round.
-use Rattle.std.proofs.Common.{◌≡◌, ℕ, zero, suc, ◌+◌, ◌<◌, Bool, true, false, cond, List, [], ◌∷◌, length, map, Option, Some, None, slice_get, option_map, option_and_then, unwrap_or, ℤ, sym, ◌∙◌, ap, refl, arith, ◌⊎◌, inl, inr, subst, lt-ltb}
+use Rattle.std.proofs.Common.{◌≡◌, ℕ, zero, suc, ◌<◌, Bool, true, false, cond, List, [], ◌∷◌, map, Option, Some, None, slice_get, option_and_then, ℤ, sym, ◌∙◌, ap, refl, ◌⊎◌, inl, inr, subst, lt-ltb}
 use Rattle.std.specs.Prelude.{nat_lt}
 use Rattle.std.specs.List.{IsAmong}
 use Rattle.std.proofs.lemmas.Bool.{ltb-true}
@@ -8,17 +8,15 @@ use Rattle.aol_shape.specs.Shape.{size, rank, point_at, IsPointOf}
 use Rattle.aol_shape.proofs.Points.{rank-lt-size, point_at-rank, point_at-is, rank-point_at}
 use Rattle.aol_expr_tree.specs.declared.port.Port.{Port}
 use Rattle.aol_model_types.specs.declared.document.Model.{Model}
-use Rattle.aol_model_types.specs.declared.task.Elementary.{Elementary}
 use Rattle.aol_model_types.specs.declared.task.OutPort.{OutPort}
-use Rattle.aol_model_types.specs.declared.task.Task.TheVariants as tasks
 use Rattle.aol_model_types.specs.Rules.{outputs_of}
-use Rattle.aol_flat.specs.Place.{Place, Element, IsElement, task_at, elements_of}
+use Rattle.aol_flat.specs.Place.{Place, Element, IsElement, task_at}
 use Rattle.aol_flat.specs.Equation.{MainInput, ElementaryOutput, CopiedElement}
 use Rattle.aol_flat.specs.Home.{Home, Kept, Constant, origin_home, origin, home_of}
 use Rattle.aol_flat.specs.Instance.{Instance, Run, Copy, instances, element_of_port, port_element, written_element, written_elements, read_elements}
 use Rattle.aol_flat.specs.InstanceNeed.{Reaches, here, onward, IsReal}
 use Rattle.aol_flat.specs.Keep.{EndsAt, at_input, at_number, at_output, by_following as ends_by_following, by_copying as ends_by_copying}
-use Rattle.aol_flat.specs.Laid.{Laid, IsLaid, IsCellOf, IsReadOf}
+use Rattle.aol_flat.specs.Laid.{Laid, IsCellOf, IsReadOf}
 use Rattle.aol_flat.specs.Need.{Follows}
 use Rattle.aol_flat.specs.Reads.{IsGiven, by_main_input, by_default, by_computing, by_copying, by_following}
 use Rattle.aol_flat.specs.Sources.{source_at}
@@ -29,13 +27,11 @@ use Rattle.aol_flat.specs.declared.view.End.{End}
 use Rattle.aol_flat.specs.declared.view.End.TheVariants.{Input, Const as AtConst, Made}
 use Rattle.aol_flat.specs.declared.view.Read.{Read}
 use Rattle.aol_flat.specs.declared.view.Read.TheVariants.{Cell, Const}
-use Rattle.aol_flat.proofs.Among.{get_among, map_among}
 use Rattle.aol_flat.proofs.Find.{and_then_some}
 use Rattle.aol_flat.proofs.Homes.{input_home, followed_homes, default_number_home}
 use Rattle.aol_flat.proofs.Numbered.{agreeing_is_numbered, copy_numbered}
 use Rattle.aol_flat.proofs.PathGrounded.{none_is_some}
 use Rattle.aol_flat.proofs.PortsOf.{read_moves}
-use Rattle.aol_flat.proofs.Readings.{of_rank}
 use Rattle.aol_flat.proofs.Real.{sound_is_real}
 use Rattle.aol_flat.proofs.Sources.{followed_found}
 use Rattle.aol_flat.proofs.SourceSteps.{main_none, main_input_side}

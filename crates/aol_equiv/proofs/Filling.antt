@@ -1,17 +1,15 @@
 -- The leads of cells grow instance by instance.
-use Rattle.std.proofs.Common.{◌≡◌, ◌≢◌, ℕ, zero, suc, ◌+◌, ◌<◌, List, [], ◌∷◌, length, map, Option, Some, None, slice_get, option_map, option_and_then, unwrap_or, sym, ◌∙◌, ap, refl, arith, ◌⊎◌, inl, inr, subst}
+use Rattle.std.proofs.Common.{◌≡◌, ℕ, zero, suc, ◌+◌, ◌<◌, List, [], ◌∷◌, length, map, Option, Some, None, slice_get, option_map, option_and_then, unwrap_or, sym, ◌∙◌, ap, refl, arith, ◌⊎◌, inl, inr, subst}
 use Rattle.std.specs.Prelude.{filter_map}
 use Rattle.std.specs.List.{IsAmong, AllZip, AllByRecursion}
 use Rattle.std.proofs.lemmas.Option.{slice_get_within}
 use Rattle.aol_shape.specs.Shape.{size, point_at, rank}
 use Rattle.aol_shape.proofs.Points.{rank-point_at}
 use Rattle.aol_expr_tree.specs.declared.port.Port.{Port}
-use Rattle.aol_model_types.specs.declared.document.Model.{Model}
 use Rattle.aol_model_types.specs.declared.task.OutPort.{OutPort}
-use Rattle.aol_model_types.specs.declared.task.Task.{Task}
 use Rattle.aol_model_types.specs.declared.task.Task.TheVariants as tasks
 use Rattle.aol_model_types.specs.Rules.{outputs_of, task_name}
-use Rattle.aol_flat.specs.Place.{Place, Element, task_at, elements_of}
+use Rattle.aol_flat.specs.Place.{Place, Element, elements_of}
 use Rattle.aol_flat.specs.Home.{Kept}
 use Rattle.aol_flat.specs.Instance.{Instance, Run, Copy, instances, of_task, element_of_port, port_element, port_sizes, places_of_sizes, written_element, written_elements, written_sizes, read_elements}
 use Rattle.aol_flat.specs.InstanceNeed.{IsReal}
@@ -25,13 +23,12 @@ use Rattle.aol_flat.specs.declared.view.Read.{Read}
 use Rattle.aol_flat.specs.declared.view.Read.TheVariants.{Cell, Const}
 use Rattle.aol_flat.specs.declared.view.Reader.TheVariants.{Main}
 use Rattle.aol_flat.proofs.Among.{among_get, get_among}
-use Rattle.aol_flat.proofs.Agree.{IsAmong-tail}
 use Rattle.aol_flat.proofs.Checked.{task_of}
 use Rattle.aol_flat.proofs.Find.{and_then_some, task_at_named}
 use Rattle.aol_flat.proofs.Real.{sound_is_real}
 use Rattle.aol_flat_laws.proofs.Apart.{Apart}
 use Rattle.aol_flat_laws.proofs.LaidHomes.{laid_cells_are_homes}
-use Rattle.aol_flat_laws.proofs.OneWriter.{only_member, written_there, one_home, written_among, among_written}
+use Rattle.aol_flat_laws.proofs.OneWriter.{only_member, written_there, one_home, among_written}
 use Rattle.aol_flat_laws.proofs.Ports.{DifferentNames, outputs_differ}
 use Rattle.aol_assign.proofs.CellWriters.{one_writer}
 use Rattle.aol_assign.proofs.Fitting.{each_among}
@@ -39,7 +36,7 @@ use Rattle.aol_assign.proofs.ReadingPlaces.{Aligned, aligned_get, ports_aligned}
 use Rattle.aol_equiv.specs.declared.leads.Lead.{Lead}
 use Rattle.aol_equiv.specs.declared.leads.Lead.TheVariants.{Ends, Nowhere}
 use Rattle.aol_equiv.specs.Leads.{lead_of, put_leads}
-use Rattle.aol_equiv.specs.Table.{IsLeadOf, IsFilled, HaveReads, HasLeads, HasSpots, IsCopying, made_by}
+use Rattle.aol_equiv.specs.Table.{IsLeadOf, IsFilled, HasLeads, HasSpots, IsCopying, made_by}
 use Rattle.aol_equiv.proofs.Ended.{at_rank, ends_here}
 use Rattle.aol_equiv.proofs.Setting.{IsPut, put_length, put_either, put_some}
 

@@ -1,7 +1,6 @@
 -- Reads that are kept, number by number.
 use Rattle.std.proofs.Common.{◌≡◌, ℕ, zero, suc, ◌<◌, List, [], ◌∷◌, length, get_or, Bool, true, false, Some, slice_get, sym, ◌∙◌, ap, refl, arith, subst}
 use Rattle.std.specs.Prelude.{IsTrue, ◌↔◌}
-use Rattle.aol_flat.specs.Keep.{old_end}
 use Rattle.aol_flat.specs.declared.view.End.{End}
 use Rattle.aol_flat.specs.declared.view.Read.{Read}
 use Rattle.aol_equiv.specs.declared.compare.Sides.{Sides}

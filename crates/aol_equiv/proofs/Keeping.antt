@@ -1,5 +1,5 @@
 -- The first read that isn't kept, instance by instance and then among the main outputs.
-use Rattle.std.proofs.Common.{◌≡◌, ℕ, zero, suc, ◌+◌, ◌<◌, List, [], ◌∷◌, ◌++◌, length, flat_map, take, get_or, Option, Some, None, slice_get, option_and_then, sym, ◌∙◌, ap, refl, arith, ◌⊎◌, inl, inr, subst}
+use Rattle.std.proofs.Common.{◌≡◌, ℕ, zero, suc, ◌+◌, ◌<◌, List, [], ◌∷◌, ◌++◌, length, flat_map, get_or, Option, Some, None, slice_get, option_and_then, sym, ◌∙◌, ap, refl, arith, ◌⊎◌, inl, inr, subst}
 use Rattle.std.specs.Prelude.{slice_index, IsSome}
 use Rattle.std.specs.List.{IsAmong, AllZip, AllByRecursion, enumerate_from, sum}
 use Rattle.std.proofs.lemmas.List.{take_all}
@@ -10,15 +10,15 @@ use Rattle.aol_flat.specs.Place.{Element, IsElement, elements_of}
 use Rattle.aol_flat.specs.Instance.{Instance, instances, places_of_sizes, port_sizes, read_sizes, read_elements}
 use Rattle.aol_flat.specs.InstanceNeed.{IsReal}
 use Rattle.aol_flat.specs.Keep.{EndsAt, old_end, old_read, SameEnd, Keeps, reading_before, ReadingIsKept}
-use Rattle.aol_flat.specs.Laid.{Laid, IsReadOf, main_input_elements, main_output_elements}
-use Rattle.aol_flat.specs.Reads.{Reading, instance_readings, main_readings, readings, IsFirstFailing, by_caller}
+use Rattle.aol_flat.specs.Laid.{IsReadOf, main_input_elements, main_output_elements}
+use Rattle.aol_flat.specs.Reads.{Reading, instance_readings, main_readings, IsFirstFailing, by_caller}
 use Rattle.aol_flat.specs.declared.view.End.{End}
 use Rattle.aol_flat.specs.declared.view.Read.{Read}
 use Rattle.aol_flat.specs.declared.view.Reader.{Reader}
 use Rattle.aol_flat.specs.declared.view.Reader.TheVariants.{Instance as ByInstance, Main}
 use Rattle.aol_flat.proofs.Among.{among_get, get_among}
 use Rattle.aol_flat.proofs.Enumerate.{with_number}
-use Rattle.aol_flat.proofs.Inside.{flat_map_among, among_left, among_right}
+use Rattle.aol_flat.proofs.Inside.{flat_map_among}
 use Rattle.aol_flat.proofs.Names.{slice_get-left, slice_get-right}
 use Rattle.aol_flat.proofs.Real.{sound_is_real}
 use Rattle.aol_flat.proofs.Visiting.{numbered_more, numbered_rest}
@@ -33,9 +33,9 @@ use Rattle.aol_assign.proofs.ReadingPlaces.{Aligned, aligned_get, aligned_elemen
 use Rattle.aol_equiv.specs.declared.compare.Sides.{Sides}
 use Rattle.aol_equiv.specs.Answers.{LostIs}
 use Rattle.aol_equiv.specs.Compared.{AreCompared, AreKeptBefore, IsKeptAt, IsFirstAt, TellsFirst}
-use Rattle.aol_equiv.specs.Leads.{end_of, IsKeptRead}
+use Rattle.aol_equiv.specs.Leads.{end_of}
 use Rattle.aol_equiv.proofs.Befores.{old_at, same_sizes}
-use Rattle.aol_equiv.proofs.Filling.{aligned_length, zip_get, get_zip, zip_length}
+use Rattle.aol_equiv.proofs.Filling.{aligned_length, zip_get, get_zip}
 use Rattle.aol_equiv.proofs.ReadEnds.{read_ends, instance_reads}
 
 -- ---- the first that fails

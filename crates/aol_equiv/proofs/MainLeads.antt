@@ -13,12 +13,12 @@ use Rattle.aol_model_types.specs.declared.task.Task.TheVariants as tasks
 use Rattle.aol_model_types.specs.Rules.{inputs_of}
 use Rattle.aol_model_types.specs.Types.{IsTask}
 use Rattle.aol_flat.specs.Tasks.{main_task, main_inputs, main_outputs}
-use Rattle.aol_flat.specs.Place.{Element, elements_of}
+use Rattle.aol_flat.specs.Place.{Element}
 use Rattle.aol_flat.specs.Equation.{MainInput}
 use Rattle.aol_flat.specs.Home.{Kept}
 use Rattle.aol_flat.specs.Instance.{Instance, Run, Copy, instances, leaves, element_of_port, port_element, port_sizes, places_of_sizes, written_elements}
 use Rattle.aol_flat.specs.InstanceNeed.{IsReal}
-use Rattle.aol_flat.specs.Laid.{Laid, IsLaid, IsCellOf, IsReadOf, main_input_elements, main_output_elements}
+use Rattle.aol_flat.specs.Laid.{Laid, IsLaid, IsReadOf, main_input_elements}
 use Rattle.aol_flat.specs.Leaves.{instances_of}
 use Rattle.aol_flat.specs.Need.{Follows}
 use Rattle.aol_flat.specs.Sources.{source_at}
@@ -27,7 +27,7 @@ use Rattle.aol_flat.specs.Accept.{IsSound}
 use Rattle.aol_flat.specs.declared.view.End.TheVariants.{Input}
 use Rattle.aol_flat.specs.declared.view.Read.{Read}
 use Rattle.aol_flat.specs.declared.view.Read.TheVariants.{Cell, Const}
-use Rattle.aol_flat.proofs.Among.{among_get, get_among, at_port}
+use Rattle.aol_flat.proofs.Among.{among_get}
 use Rattle.aol_flat.proofs.Checked.{task_of}
 use Rattle.aol_flat.proofs.Find.{and_then_some}
 use Rattle.aol_flat.proofs.Levelled.{two_sides}
@@ -35,7 +35,6 @@ use Rattle.aol_flat.proofs.Names.{slice_get-left, slice_get-right}
 use Rattle.aol_flat.proofs.PathGrounded.{none_is_some}
 use Rattle.aol_flat.proofs.Readings.{of_rank}
 use Rattle.aol_flat.proofs.Real.{sound_is_real}
-use Rattle.aol_flat.proofs.RealCycles.{output_of_port}
 use Rattle.aol_flat.proofs.SourceCopies.{copied_found}
 use Rattle.aol_flat.proofs.Sources.{followed_found}
 use Rattle.aol_flat.proofs.SourceSteps.{computed_output, main_none, main_input_side}
@@ -54,7 +53,7 @@ use Rattle.aol_equiv.specs.Leads.{lead_of}
 use Rattle.aol_equiv.specs.Resolved.{AreWithin}
 use Rattle.aol_equiv.specs.Table.{IsLeadOf, IsFilled, IsGivenCell, HasLeads, AreLeads, given_at}
 use Rattle.aol_equiv.proofs.Ended.{at_rank, ranked_there, ends_here, main_home, output_at}
-use Rattle.aol_equiv.proofs.Filling.{map_get, get_map, placed, place_there, one_place, spot_count}
+use Rattle.aol_equiv.proofs.Filling.{map_get, placed, place_there, one_place, spot_count}
 
 -- ---- lists
 

@@ -13,7 +13,7 @@ use Rattle.aol_assign.proofs.Fitting.{each_among}
 use Rattle.aol_equiv.specs.declared.leads.Lead.{Lead}
 use Rattle.aol_equiv.specs.declared.leads.Lead.TheVariants.{Ends, Copies, Nowhere}
 use Rattle.aol_equiv.specs.Leads.{set_each}
-use Rattle.aol_equiv.specs.Resolved.{AreWithin, EndsFrom, at_end, by_copy, IsRight, AreRight, IsFollowed, IsPath, IsWholePath, IsWalked, IsResolvedTo, IsResolved}
+use Rattle.aol_equiv.specs.Resolved.{AreWithin, EndsFrom, at_end, by_copy, IsRight, IsFollowed, IsPath, IsWholePath, IsWalked, IsResolvedTo, IsResolved}
 use Rattle.aol_equiv.proofs.Setting.{set_here, set_there, either_way, each_length, each_here, each_either, only_here}
 
 -- ---- following copies

@@ -1,5 +1,5 @@
 -- Each element that an accepted model reads has an end.
-use Rattle.std.proofs.Common.{◌≡◌, List, sym, ap, subst}
+use Rattle.std.proofs.Common.{List, sym, subst}
 use Rattle.std.specs.List.{IsAmong}
 use Rattle.aol_shape.specs.Shape.{rank}
 use Rattle.aol_model_types.specs.declared.document.Model.{Model}
@@ -8,7 +8,7 @@ use Rattle.aol_flat.specs.Instance.{Instance, Run, Copy, read_elements}
 use Rattle.aol_flat.specs.InstanceNeed.{IsReal}
 use Rattle.aol_flat.specs.Keep.{EndsAt, at_input, at_number, at_output, by_following as ends_by_following, by_copying as ends_by_copying}
 use Rattle.aol_flat.specs.Need.{IsGrounded, grounded, by_following as needs_following, by_copying as needs_copying}
-use Rattle.aol_flat.specs.Reads.{IsGiven, by_main_input, by_default, by_computing, by_copying, by_following, IsRead, by_run, by_copy, by_caller}
+use Rattle.aol_flat.specs.Reads.{IsGiven, by_main_input, by_default, by_computing, by_copying, by_following, IsRead, by_run, by_copy}
 use Rattle.aol_flat.specs.Accept.{IsSound, IsAccepted}
 use Rattle.aol_flat.specs.declared.view.End.{End}
 use Rattle.aol_flat.specs.declared.view.End.TheVariants.{Input, Const, Made}

@@ -1,16 +1,15 @@
 -- What the kind of a leaf says of its instances.
-use Rattle.std.proofs.Common.{◌≡◌, ℕ, zero, suc, ◌+◌, ◌<◌, List, [], ◌∷◌, length, take, get_or, Option, Some, None, slice_get, option_map, option_and_then, unwrap_or, sym, ◌∙◌, ap, refl, arith, subst}
+use Rattle.std.proofs.Common.{◌≡◌, ℕ, zero, suc, ◌+◌, ◌<◌, List, [], ◌∷◌, length, get_or, Option, Some, None, slice_get, option_map, option_and_then, unwrap_or, sym, ◌∙◌, ap, refl, arith, subst}
 use Rattle.std.proofs.lemmas.Option.{slice_get_within}
 use Rattle.aol_shape.specs.Shape.{IsPointOf, size, point_at}
 use Rattle.aol_shape.proofs.Points.{point_at-is}
 use Rattle.aol_model_types.specs.declared.document.Model.{Model}
-use Rattle.aol_model_types.specs.declared.task.Elementary.{Elementary}
 use Rattle.aol_model_types.specs.declared.task.Task.{Task}
 use Rattle.aol_model_types.specs.declared.task.Task.TheVariants as tasks
 use Rattle.aol_model_types.specs.Rules.{task_name, task_named, inputs_of, outputs_of}
 use Rattle.aol_flat.specs.Tasks.{main_task}
 use Rattle.aol_flat.specs.Place.{Place, task_at}
-use Rattle.aol_flat.specs.Instance.{Leaf, Work, Computes, Copies, leaves, Instance, Run, Copy, instances, instance_on, port_sizes, places_of_sizes, read_sizes, written_sizes}
+use Rattle.aol_flat.specs.Instance.{Leaf, Work, Computes, Copies, leaves, Instance, Run, instances, instance_on, port_sizes, places_of_sizes, read_sizes, written_sizes}
 use Rattle.aol_flat.specs.Leaves.{kind_of, IsLeafRow}
 use Rattle.aol_flat.specs.Node.{place_on}
 use Rattle.aol_flat.specs.Numbered.{number_named}
@@ -25,7 +24,7 @@ use Rattle.aol_flat.proofs.TaskNumbers.{found, none_from}
 use Rattle.aol_flat.proofs.LeafAt.{instance_at}
 use Rattle.aol_assign.proofs.LeafNumbers.{leaf_task, instance_there}
 use Rattle.aol_equiv.specs.Table.{IsOfKind}
-use Rattle.aol_flat_laws.proofs.NodeTasks.{HasSpaces, task_on}
+use Rattle.aol_flat_laws.proofs.NodeTasks.{task_on}
 
 -- a task that is found under a name has a number under its own
 named_number : (m : Model) (t : Task) (name : List ℕ) → task_named m.tasks name ≡ Some t → (k : ℕ) × (number_named m.tasks (task_name t) ≡ Some k) × (slice_get m.tasks k ≡ Some t)

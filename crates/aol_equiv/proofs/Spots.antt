@@ -1,9 +1,9 @@
 -- The ports and ranks of what a leaf's instances read.
-use Rattle.std.proofs.Common.{◌≡◌, ℕ, ◌+◌, ◌<◌, ◌^◌, List, [], ◌∷◌, length, get_or, Some, slice_get, sym, ◌∙◌, ap}
+use Rattle.std.proofs.Common.{◌≡◌, ℕ, ◌+◌, ◌<◌, ◌^◌, List, [], ◌∷◌, length, get_or, Some, sym, ◌∙◌, ap}
 use Rattle.aol_model_types.specs.declared.document.Model.{Model}
 use Rattle.aol_model_types.specs.declared.task.Task.{Task}
 use Rattle.aol_model_types.specs.Rules.{inputs_of}
-use Rattle.aol_flat.specs.Instance.{Leaf, port_sizes, places_of_sizes}
+use Rattle.aol_flat.specs.Instance.{port_sizes, places_of_sizes}
 use Rattle.aol_flat.specs.Leaves.{kind_of, IsLeafRow}
 use Rattle.aol_flat.specs.Accept.{IsSound}
 use Rattle.aol_flat.specs.declared.leaf.Leaf.{Leaf as LeafRow}

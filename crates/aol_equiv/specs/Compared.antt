@@ -4,14 +4,12 @@ use Rattle.aol_model_types.specs.declared.document.Model.{Model}
 use Rattle.aol_flat.specs.Accept.{IsFlat}
 use Rattle.aol_flat.specs.Instance.{Instance, instances, read_sizes, places_of_sizes}
 use Rattle.aol_flat.specs.Keep.{AreComparable, Keeps, ReadingIsKept}
-use Rattle.aol_flat.specs.Laid.{Laid}
 use Rattle.aol_flat.specs.Reads.{Reading}
 use Rattle.aol_flat.specs.Targets.{IsSingleAssignment}
 use Rattle.aol_flat.specs.declared.view.End.{End}
 use Rattle.aol_flat.specs.declared.view.Read.{Read}
 use Rattle.aol_assign.specs.ReadsSoFar.{readings_before}
 use Rattle.aol_equiv.specs.declared.compare.Sides.{Sides}
-use Rattle.aol_equiv.specs.declared.leads.Lead.{Lead}
 use Rattle.aol_equiv.specs.declared.lost.Lost.{Lost}
 use Rattle.aol_equiv.specs.Answers.{IsRightlyLost}
 use Rattle.aol_equiv.specs.Before.{AreLeavesTo}

@@ -1,5 +1,5 @@
 -- Where the cells of a model end, instance by instance.
-use Rattle.std.specs.Prelude.{◌≡◌, ◌⊎◌, ◌↔◌, ℕ, ◌+◌, ◌<◌, ◌^◌, List, take, map, length, slice_get, Some}
+use Rattle.std.specs.Prelude.{◌≡◌, ◌⊎◌, ◌↔◌, ℕ, ◌+◌, ◌<◌, List, take, length, slice_get, Some}
 use Rattle.std.specs.List.{IsAmong}
 use Rattle.aol_shape.specs.Shape.{rank}
 use Rattle.aol_model_types.specs.declared.document.Model.{Model}

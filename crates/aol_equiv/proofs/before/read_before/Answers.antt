@@ -1,4 +1,4 @@
-use Rattle.std.proofs.Common.{◌≡◌, ℕ, length, get_or, sym, ◌∙◌, arith}
+use Rattle.std.proofs.Common.{◌≡◌, length, get_or, sym, ◌∙◌, arith}
 use Rattle.aol_equiv.proofs.Olds.{on_leaf, many_there, base_under, number_on, reads_are}
 use Rattle.aol_flat.specs.Instance.{instances}
 use Rattle.aol_equiv.proofs.before.read_before.Goals as goal

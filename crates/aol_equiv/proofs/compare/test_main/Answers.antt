@@ -1,4 +1,4 @@
-use Rattle.std.proofs.Common.{◌≡◌, ◌<◌, ◌^◌, ◌∙◌, sym, ap, subst, length}
+use Rattle.std.proofs.Common.{◌<◌, ◌^◌, ◌∙◌, sym, ap, subst, length}
 use Rattle.aol_model_types.specs.declared.document.Model.{Model}
 use Rattle.aol_flat.specs.Instance.{places_of_sizes, port_sizes}
 use Rattle.aol_flat.specs.Tasks.{main_outputs}

@@ -1,6 +1,5 @@
 use Rattle.std.proofs.Common.{◌≡◌, ℕ, ◌+◌, ◌<◌, ◌^◌, ◌∙◌, sym, ap, subst, length, slice_get, get_or, Some, arith}
 use Rattle.std.proofs.lemmas.Option.{slice_get_within}
-use Rattle.std.specs.List.{sum}
 use Rattle.aol_flat.specs.Instance.{instances, places_of_sizes, read_sizes, read_elements}
 use Rattle.aol_flat.proofs.Alongs.{each_reads}
 use Rattle.aol_assign.proofs.LeafNumbers.{number_listed, among_leaf, numbers_small, moved_reads, moved_count}

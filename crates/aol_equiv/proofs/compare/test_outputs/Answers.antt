@@ -1,8 +1,7 @@
-use Rattle.std.proofs.Common.{◌≡◌, ◌<◌, ◌≤◌, ◌+◌, ◌^◌, ◌∙◌, [], sym, ap, subst, length, get_or, slice_get, Some, arith}
+use Rattle.std.proofs.Common.{◌≡◌, ◌<◌, ◌∙◌, [], sym, ap, length, get_or, slice_get, Some, arith}
 use Rattle.aol_flat.specs.Instance.{places_of_sizes, port_sizes}
 use Rattle.aol_flat.specs.Laid.{main_input_elements, main_output_elements}
 use Rattle.aol_flat.specs.Tasks.{main_outputs}
-use Rattle.aol_flat.specs.declared.view.Read.{Read}
 use Rattle.aol_assign.specs.Holes.{cells_from}
 use Rattle.aol_assign.proofs.MainCells.{main_within}
 use Rattle.aol_equiv.proofs.Filling.{spot_count}

@@ -1,5 +1,4 @@
-use Rattle.std.proofs.Common.{◌≡◌, ℕ, ◌+◌, ◌<◌, ◌^◌, List, length, sym, arith, subst}
-use Rattle.aol_flat.specs.Instance.{instances}
+use Rattle.std.proofs.Common.{◌≡◌, ℕ, ◌+◌, List, sym, arith, subst}
 use Rattle.aol_flat.specs.Leaves.{IsLeafRow}
 use Rattle.aol_assign.proofs.LeafNumbers.{among_leaf, instance_there, moved_reads, moved_writes}
 use Rattle.aol_equiv.specs.declared.leads.Lead.{Lead}

@@ -1,4 +1,4 @@
-use Rattle.std.proofs.Common.{◌≡◌, ℕ, take, ap, subst, arith}
+use Rattle.std.proofs.Common.{ℕ, ap, subst, arith}
 use Rattle.std.proofs.lemmas.List.{take_all}
 use Rattle.aol_flat.specs.Instance.{leaves}
 use Rattle.aol_flat.specs.Leaves.{instances_of}

@@ -1,4 +1,4 @@
-use Rattle.std.proofs.Common.{◌≡◌, ℕ, List, [], ◌∷◌, ◌++◌, slice_get, sym, subst}
+use Rattle.std.proofs.Common.{◌≡◌, ℕ, List, [], ◌∷◌, ◌++◌, sym, subst}
 use Rattle.std.specs.Prelude.{slice_set}
 use Rattle.aol_equiv.specs.declared.leads.Lead.TheVariants.{Copies, Nowhere}
 use Rattle.aol_equiv.specs.Resolved.{IsPath}

@@ -1,2 +1,11 @@
 pub mod Rests
 pub mod Does
+pub mod Lists
+pub mod Progress
+pub mod PointSteps
+pub mod Settle
+pub mod Port
+pub mod Taken
+pub mod PortList
+pub mod Instance
+pub mod Fits

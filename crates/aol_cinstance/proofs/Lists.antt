@@ -59,6 +59,10 @@ map_get f [] (suc k) x h = absurd (cc)
 map_get f (y ∷ xs) zero x h = cc
 map_get f (y ∷ xs) (suc k) x h = map_get f xs k x h
 
+pub map_length : {A B : Type 0} (f : A → B) (xs : List A) → length (map f xs) ≡ length xs
+map_length f [] = refl
+map_length f (x ∷ xs) = ap (λ n. suc n) (map_length f xs)
+
 pub nth_get : (zs : List ℤ) (k : ℕ) (z : ℤ) → slice_get zs k ≡ Some z → nth_number zs k ≡ z
 nth_get [] zero z h = absurd (cc)
 nth_get [] (suc k) z h = absurd (cc)

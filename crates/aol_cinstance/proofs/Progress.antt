@@ -2,7 +2,7 @@
 use Rattle.std.specs.Prelude.{◌≡◌, ℕ, zero, suc, ◌+◌, ◌*◌, ◌<◌, ◌≤◌, ◌^◌, ◌⊎◌, ℤ, pos, negsuc, Bool, true, false, List, [], ◌∷◌, map, take, length, slice_get, slice_set, Option, Some, None, option_and_then, nat_lt}
 use Rattle.std.proofs.Common.{refl, sym, ap, subst, arith, ◌∙◌}
 use Rattle.std.proofs.lemmas.Bool.{lt-ltb}
-use Rattle.std.proofs.lemmas.List.{length-set, length-map}
+use Rattle.std.proofs.lemmas.List.{length-set}
 use Rattle.aol_shape.specs.Numbers.{fits_64}
 use Rattle.aol_expr_tree.specs.declared.value.Val.{Val}
 use Rattle.aol_expr_tree.specs.Meaning.{nth_number}
@@ -19,7 +19,7 @@ use Rattle.aol_cinstance.specs.declared.layout.TheConstants.{INSTANCE, CELLS, RA
 use Rattle.aol_cinstance.specs.Effect.{IsHeldAt, IsHeld, Stands}
 use Rattle.aol_cinstance.specs.Statements.{cell_of}
 use Rattle.aol_cinstance.specs.Values.{mark_of, set_all}
-use Rattle.aol_cinstance.proofs.Lists.{other_kept, take_get, get_below, get_within, map_get, nth_get, set_length, set_other, set_more}
+use Rattle.aol_cinstance.proofs.Lists.{other_kept, take_get, get_below, get_within, map_get, map_length, nth_get, set_length, set_other, set_more}
 
 pub small_fits : (n : ℕ) → n < 2 ^ 63 → fits_64 (pos n) ≡ true
 small_fits n h = lt-ltb n (2 ^ 63) h
@@ -121,9 +121,9 @@ module _ (tables : List (List ℤ)) (sizes : List (List ℕ)) (t : Tables) (xs :
     numbers_read = record {
       from = st.from;
       from_is = p.from_is;
-      within = let e = length-map number_of xs in let few = st.few_reads in omega (arith, e, few);
+      within = let e = map_length number_of xs in let few = st.few_reads in omega (arith, e, few);
       each = λ k below.
-          let x = get_below xs k (let e = length-map number_of xs in omega (arith, e, below)) in
+          let x = get_below xs k (let e = map_length number_of xs in omega (arith, e, below)) in
           let h = held_now k x.0 x.1 in
           let same : nth_number (map number_of xs) k ≡ number_of x.0 = nth_get (map number_of xs) k (number_of x.0) (map_get number_of xs k x.0 x.1) in
           subst (λ z. IsRead tables t.reads u.v (st.from + k) z) (sym same) (record { entry = h.entry; there = h.there; fits = h.fits; leads = is_at x.0 h.entry h.leads });
@@ -133,9 +133,9 @@ module _ (tables : List (List ℤ)) (sizes : List (List ℕ)) (t : Tables) (xs :
     marks_read = record {
       from = st.from;
       from_is = p.from_is;
-      within = let e = length-map (mark_of sizes) xs in let few = st.few_reads in omega (arith, e, few);
+      within = let e = map_length (mark_of sizes) xs in let few = st.few_reads in omega (arith, e, few);
       each = λ k below.
-          let x = get_below xs k (let e = length-map (mark_of sizes) xs in omega (arith, e, below)) in
+          let x = get_below xs k (let e = map_length (mark_of sizes) xs in omega (arith, e, below)) in
           let h = held_now k x.0 x.1 in
           let same : nth_number (map (mark_of sizes) xs) k ≡ mark_of sizes x.0 = nth_get (map (mark_of sizes) xs) k (mark_of sizes x.0) (map_get (mark_of sizes) xs k x.0 x.1) in
           subst (λ z. IsMarked tables t.reads u.f (st.from + k) z) (sym same) (record { entry = h.entry; there = h.there; leads = is_mark_at x.0 h.entry h.leads });

@@ -1,6 +1,7 @@
 -- A cell takes a value.
-use Rattle.std.specs.Prelude.{◌≡◌, ℕ, zero, suc, ◌+◌, ◌*◌, ◌<◌, ◌≤◌, ◌^◌, ℤ, pos, negsuc, true, false, List, [], ◌∷◌, ◌++◌, take, length, slice_get, slice_set, Option, Some, Result, Ok, Err}
+use Rattle.std.specs.Prelude.{◌≡◌, ℕ, zero, suc, ◌+◌, ◌*◌, ◌<◌, ◌≤◌, ◌^◌, ℤ, pos, negsuc, ◌-ℤ◌, true, false, List, [], ◌∷◌, ◌++◌, take, length, slice_get, slice_set, Option, Some, Result, Ok, Err}
 use Rattle.std.proofs.Common.{refl, sym, ap, subst, arith, ◌∙◌}
+use Rattle.std.proofs.lemmas.Int.{ints}
 use Rattle.aol_shape.specs.Numbers.{fits_64}
 use Rattle.aol_expr_tree.specs.declared.value.Kind.{Kind}
 use Rattle.aol_expr_tree.specs.declared.value.Kind.TheVariants.{Overflow, Divide, Index, Range}
@@ -33,6 +34,9 @@ puts_both tables cell v f c z w u at is at' is' in_v in_f =
     let mid : State = with_v u (slice_set u.v c z) in
     does_then tables (put_v cell v ∷ []) (put_f cell f ∷ []) u mid (put_cell c z w u) (of_v c ∷ []) (of_f c ∷ []) (does_put_v tables cell v c z u at is in_v) (does_put_f tables cell f c w mid at' is' in_f)
 
+less_nothing : (z : ℤ) → z -ℤ pos 0 ≡ z
+less_nothing z = omega (arith, ints)
+
 kind_some : (kind : Kind) → is_zero (pos (kind_number kind)) ≡ false
 kind_some Overflow = refl
 kind_some Divide = refl
@@ -59,7 +63,7 @@ module _ (tables : List (List ℤ)) (sizes : List (List ℕ)) (t : Tables) (xs :
     pub known : Progress tables sizes t xs cs values s st (suc j) end
 
   -- the mark of the fault
-  mark_is : (first r : ℕ) (kind : Kind) (u : State) → slice_get u.vars RANK ≡ Some (pos r) → slice_get u.vars 0 ≡ Some (pos (kind_number kind)) → first + 4 * r < 2 ^ 63 - 8
+  mark_is : (first r : ℕ) (kind : Kind) (u : State) → slice_get u.vars RANK ≡ Some (pos r) → slice_get u.vars 0 ≡ Some (pos (kind_number kind)) → first + 4 * r + 8 < 2 ^ 63
       → value tables u (mark_here first) ≡ Some (pos (kind_number kind + (first + 4 * r)))
   mark_is first r kind u rank fault few =
       let low = kind_low kind in
@@ -69,7 +73,7 @@ module _ (tables : List (List ℤ)) (sizes : List (List ℕ)) (t : Tables) (xs :
       let two : value tables u behind ≡ Some (pos (first + 4 * r)) = between_is tables Plus (number (pos first)) scaled (pos first) (pos (4 * r)) u refl one ∙ small_checked (first + 4 * r) (omega (arith, few)) in
       between_is tables Plus (variable 0) behind (pos (kind_number kind)) (pos (first + 4 * r)) u fault two ∙ small_checked (kind_number kind + (first + 4 * r)) (omega (arith, few, low))
 
-  module _ (start r j c first : ℕ) (x : Val) (at : slice_get cs j ≡ Some c) (is : slice_get values j ≡ Some x) (place : start + r ≡ j) (few : first + 4 * r < 2 ^ 63 - 8) where
+  module _ (start r j c first : ℕ) (x : Val) (at : slice_get cs j ≡ Some c) (is : slice_get values j ≡ Some x) (place : start + r ≡ j) (few : first + 4 * r + 8 < 2 ^ 63) where
     pub settles : (result : Result ℤ Kind) (u : State) → Progress tables sizes t xs cs values s st j u → slice_get u.vars RANK ≡ Some (pos r) → Holds u VALUE result → IsTaken sizes first r x result
         → Settled (settle t.cells start first) j c u
     settles (Ok z) u p rank h taken =
@@ -105,5 +109,5 @@ module _ (tables : List (List ℤ)) (sizes : List (List ℕ)) (t : Tables) (xs :
           known = subst (λ w. Progress tables sizes t xs cs values s st (suc j) (put_cell c (pos 0) w u)) taken.1 (subst (λ w. Progress tables sizes t xs cs values s st (suc j) (put_cell c w (mark_of sizes x) u)) taken.0 more);
         }
       where
-        fault_test : (kind : Kind) → Some (truth (is_zero (pos (kind_number kind)))) ≡ Some (pos 0)
-        fault_test kind = ap (λ b. Some (truth b)) (kind_some kind)
+        fault_test : (kind : Kind) → Some (truth (is_zero (pos (kind_number kind) -ℤ pos 0))) ≡ Some (pos 0)
+        fault_test kind = ap (λ y. Some (truth (is_zero y))) (less_nothing (pos (kind_number kind))) ∙ ap (λ b. Some (truth b)) (kind_some kind)

@@ -16,7 +16,7 @@ use Rattle.aol_csyn.specs.Form.{any_sets, stmts_depth, stmts_formed}
 use Rattle.aol_csyn.specs.Meaning.{State, table_entry, run_all}
 use Rattle.aol_csyn.specs.Puts.{all_puts}
 use Rattle.aol_lower.specs.declared.reads.Reads.{Reads}
-use Rattle.aol_lower.specs.Effect.{patterns_size, AreShapes}
+use Rattle.aol_lower.specs.Effect.{patterns_size}
 use Rattle.aol_lower.specs.Small.{room}
 use Rattle.aol_cinstance.specs.declared.layout.Tables.{Tables}
 use Rattle.aol_cinstance.specs.declared.layout.TheConstants.{INSTANCE, CELLS, VALUE}
@@ -91,7 +91,7 @@ variables outs = VALUE + rooms outs
 -- the statements do what an instance of the task does, which is that number among the elementary ones and has so many output points before its own
 abbrev pub Computes : Tables → Elementary → ℕ → List Stmt → Type 0
 Computes t e before body =
-    (sizes : List (List ℕ)) (task : ℕ) → slice_get sizes task ≡ Some (out_sizes e.outs) → points_before sizes task 0 ≡ before → AreShapes e.ins
+    (sizes : List (List ℕ)) (task : ℕ) → slice_get sizes task ≡ Some (out_sizes e.outs) → points_before sizes task 0 ≡ before
     → Gives sizes t (patterns_size e.ins) (out_points e.outs) (variables e.outs) (instance_outputs task e) body
 
 -- ---- form

@@ -3,7 +3,7 @@ use Rattle.std.specs.Prelude.{◌≡◌, ℕ, ◌<◌, ◌^◌, List}
 use Rattle.aol_csyn.specs.Tree.{Stmt}
 use Rattle.aol_model_types.specs.declared.task.Elementary.{Elementary}
 use Rattle.aol_lower.specs.Contract.{FirstIsFormed, LeaveFirst, TestWidths, TestsAreFormed}
-use Rattle.aol_lower.specs.Effect.{patterns_size}
+use Rattle.aol_lower.specs.Effect.{AreShapes, patterns_size}
 use Rattle.aol_cinstance.specs.declared.layout.Tables.{Tables}
 use Rattle.aol_cinstance.specs.declared.layout.TheConstants.{VALUE}
 use Rattle.aol_cinstance.specs.Effect.{out_points}
@@ -15,6 +15,7 @@ pub record IsMade (t : Tables) (e : Elementary) (before : ℕ) (body : List Stmt
   pub widths : List Stmt
   pub ports : List Stmt
   pub made : body ≡ computing t.cells (out_points e.outs) search widths ports
+  pub shapes : AreShapes e.ins
   pub few_reads : patterns_size e.ins < 2 ^ 32
   pub few_cells : out_points e.outs < 2 ^ 32
   pub searches : LeaveFirst t.reads (patterns_size e.ins) VALUE search

@@ -1,6 +1,7 @@
 -- The statements of one instance.
 use Rattle.std.specs.Prelude.{◌≡◌, ℕ, ◌+◌, ◌*◌, ◌≤◌, ◌^◌, ℤ, pos, negsuc, List, [], ◌∷◌, ◌++◌, length}
-use Rattle.aol_shape.specs.Shape.{size}
+use Rattle.aol_shape.specs.Shape.{size, IsShape}
+use Rattle.aol_expr_tree.specs.Tree.{depth}
 use Rattle.aol_model_types.specs.declared.task.Elementary.{Elementary}
 use Rattle.aol_model_types.specs.declared.task.OutPort.{OutPort}
 use Rattle.aol_csyn.specs.declared.program.COp.TheVariants.{Add as Plus, Sub as Minus, Mul as Times, Div as Over, Rem as Rest, Le as AtMost, Eq as Equal}
@@ -58,6 +59,7 @@ ArePorts t e before k start [] body = body ≡ []
 ArePorts t e before k start (o ∷ outs) body =
     (fitted : List Stmt) × (rest : List Stmt)
     × (body ≡ port_loop o.port.shape t.cells start (4 * (before + start)) fitted ∷ rest)
+    × (IsShape o.port.shape × (depth o.expr ≤ 100))
     × LeaveFitted t.reads e.ins (length o.port.shape) VALUE (width_at e.wide_out k) o.expr fitted
     × FittedAreFormed t.reads e.ins VALUE o.expr fitted
     × (4 * (before + start) ≤ 2 ^ 62)

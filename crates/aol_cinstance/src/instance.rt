@@ -2,7 +2,7 @@
 
 ghost use Rattle.std.specs.Prelude.{◌≡◌, ◌<◌, ◌^◌, ◌++◌, IfOk, OnOk, length};
 ghost use Rattle.aol_lower.specs.Contract.{TestWidths, TestsAreFormed, LeaveFirst, FirstIsFormed};
-ghost use Rattle.aol_lower.specs.Effect.{patterns_size};
+ghost use Rattle.aol_lower.specs.Effect.{AreShapes, patterns_size};
 ghost use Rattle.aol_lower.specs.Stored.{trees_of};
 ghost use Rattle.aol_cinstance.specs.Effect.{AreBodies, Computes, out_points, variables};
 ghost use Rattle.aol_cinstance.specs.Made.{IsMade};
@@ -21,11 +21,13 @@ use std::alloc::Global;
 
 /// How many elements some input ports have.
 fn reads_of(ins: &[Port]) -> Result<u32, NoMemory>
-    ensures { IfOk result (λ count. count ≡ patterns_size ins.now) }
+    ensures count { IfOk result (λ count. count ≡ patterns_size ins.now) }
+    ensures shapes { OnOk result (AreShapes ins.now) }
 {
     let Some((port, others)) = ins.split_first() else {
         return Ok(0);
     };
+    let _entries = port.shape.as_slice();
     let rest = reads_of(others)?;
     port.shape.size().checked_add(rest).ok_or(NoMemory)
 }

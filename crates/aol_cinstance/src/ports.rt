@@ -1,6 +1,8 @@
 //! The output ports of an elementary task.
 
 ghost use Rattle.std.specs.Prelude.{◌≡◌, ◌+◌, ◌<◌, ◌≤◌, ◌^◌, IfOk, length, drop};
+ghost use Rattle.aol_shape.specs.Shape.{IsShape};
+ghost use Rattle.aol_expr_tree.specs.Tree.{IsExpr};
 ghost use Rattle.aol_flat.specs.InstanceValue.{width_at};
 ghost use Rattle.aol_lower.specs.Contract.{LeaveFitted, FittedAreFormed};
 ghost use Rattle.aol_lower.specs.Stored.{trees_of};
@@ -33,11 +35,14 @@ fn fitted(
     width: Width,
     tables: Tables,
 ) -> Result<Items<CStmt>, NoMemory>
+    ensures shape { IsShape out.now.port.shape }
+    ensures limits { IsExpr out.now.expr }
     ensures value { IfOk result (λ body. LeaveFitted tables.reads task.now.ins (length out.now.port.shape) VALUE width out.now.expr (trees_of body)) }
     ensures formed { IfOk result (λ body. FittedAreFormed tables.reads task.now.ins VALUE out.now.expr (trees_of body)) }
 {
     let rank = out.port.shape.as_slice().len() as u32;
     let _variables = room(&out.expr);
+    let _root = out.expr.root();
     let ins = task.ins.as_slice();
     lower_fitted(alloc, &out.expr, ins, rank, width, tables.reads, VALUE)
 }

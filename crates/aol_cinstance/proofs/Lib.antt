@@ -7,5 +7,7 @@ pub mod Settle
 pub mod Port
 pub mod Taken
 pub mod PortList
-pub mod Instance
+pub mod Whole
 pub mod Fits
+pub mod BodyFits
+pub mod CopyDoes

@@ -24,6 +24,7 @@ use Rattle.aol_cinstance.specs.Values.{points_before, both}
 use Rattle.aol_cinstance.proofs.Does.{Does, does_then, does_nothing}
 use Rattle.aol_cinstance.proofs.Lists.{get_below, get_within}
 use Rattle.aol_cinstance.proofs.Port.{Between, PortDone, port_done, result}
+use Rattle.aol_cinstance.proofs.Settle.{IsTaken}
 use Rattle.aol_cinstance.proofs.Taken.{port_vals, vals_length, vals_get, element_taken}
 
 -- statements of an expression put nothing, however many variables and tables there are
@@ -73,21 +74,28 @@ module _ (tables : List (List ℤ)) (sizes : List (List ℕ)) (t : Tables) (xs :
         known = subst (λ m. B m p.end) e0 p.known;
       }
 
+  first_place : (k start : ℕ) → points_before sizes task (k + 0) ≡ before + start + 0 → points_before sizes task (k + 0) ≡ before + start
+  first_place k start m = omega (arith, m)
+
+  -- what an element of a port takes
+  taken_at : (o : OutPort) (k start : ℕ) (done rest : List Val) → points_before sizes task k ≡ before + start → values ≡ done ++ (port_vals task e xs (k, o) ++ rest) → length done ≡ start → (i : ℕ) → i < size o.port.shape
+      → (x : Val) × (slice_get values (start + i) ≡ Some x) × IsTaken sizes (4 * (before + start)) i x (result tables sizes t xs cs values s st e shapes whole ok o (width_at e.wide_out k) i)
+  taken_at o k start done rest here split front i below =
+      (instance_value task e xs k o (point_at o.port.shape i),
+        ap (λ vs. slice_get vs (start + i)) split ∙ (ap (λ m. slice_get (done ++ (port_vals task e xs (k, o) ++ rest)) (m + i)) (sym front) ∙ vals_get task e xs done k i o rest below),
+        element_taken sizes task k i (before + start) (4 * (before + start)) o below here refl e xs ok none ok_is)
+
   pub ports_do : (outs : List OutPort) (k start : ℕ) (body : List Stmt) (done : List Val) (u : State) → ArePorts t e before k start outs body
       → values ≡ done ++ flat_map (port_vals task e xs) (enumerate_from k outs) → length done ≡ start
       → ((j : ℕ) → points_before sizes task (k + j) ≡ before + start + sum (take j (out_sizes outs))) → VALUE + rooms outs ≤ length s.vars → B start u → Ported start (out_points outs) body u
-  ports_do [] k start body done u are split front marks room b = no_ports start body u are b
+  ports_do [] k start body done u are split front marks enough b = no_ports start body u are b
   ports_do (o ∷ outs) k start body done u are split front marks room_all b =
       let n : ℕ = size o.port.shape in
       let fitted = are.0 in
       let first : ℕ = 4 * (before + start) in
       let rest = flat_map (port_vals task e xs) (enumerate_from (k + 1) outs) in
-      let here : points_before sizes task k ≡ before + start = (let e0 : k ≡ k + 0 = omega arith in ap (points_before sizes task) e0 ∙ (let m = marks 0 in omega (arith, m))) in
-      let taken = λ (i : ℕ) (below : i < n).
-          (instance_value task e xs k o (point_at o.port.shape i),
-            ap (λ vs. slice_get vs (start + i)) split ∙ (ap (λ m. slice_get (done ++ (port_vals task e xs (k, o) ++ rest)) (m + i)) (sym front) ∙ vals_get task e xs done k i o rest below),
-            element_taken sizes task k i (before + start) first o below here refl e xs ok none ok_is) in
-      let port = port_done tables sizes t xs cs values s st e shapes whole ok o (width_at e.wide_out k) start first fitted are.3.0 are.4 (fitted_quiet t e o fitted shapes few are.5) (omega (arith, room_all)) above are.6 taken there u b in
+      let here : points_before sizes task k ≡ before + start = (let e0 : k ≡ k + 0 = omega arith in let m = marks 0 in ap (points_before sizes task) e0 ∙ first_place k start m) in
+      let port = port_done tables sizes t xs cs values s st e shapes whole ok o (width_at e.wide_out k) start first fitted are.3.0 are.4 (fitted_quiet t e o fitted shapes few are.5) (omega (arith, room_all)) above are.6 (taken_at o k start done rest here split front) there u b in
       let size_is = vals_length task e xs k o in
       let others = ports_do outs (k + 1) (start + n) are.1 (done ++ port_vals task e xs (k, o)) port.end are.7
           (split ∙ sym (append_assoc done (port_vals task e xs (k, o)) rest))

@@ -15,7 +15,7 @@ use Rattle.aol_expr_tree.specs.declared.value.Site.{Site}
 use Rattle.aol_expr_tree.specs.declared.value.Val.{Val}
 use Rattle.aol_expr_tree.specs.declared.value.Val.TheVariants.{Num, Bad}
 use Rattle.aol_expr_tree.specs.declared.value.Width.{Width}
-use Rattle.aol_expr_tree.specs.Meaning.{◌>>=◌, holds, value}
+use Rattle.aol_expr_tree.specs.Meaning.{◌>>=◌, Given, holds, value}
 use Rattle.aol_model_types.specs.declared.task.Elementary.{Elementary}
 use Rattle.aol_model_types.specs.declared.task.OutPort.{OutPort}
 use Rattle.aol_csyn.specs.Meaning.{is_zero}
@@ -106,7 +106,7 @@ module _ (sizes : List (List ℕ)) (task k i before first : ℕ) (o : OutPort) (
       → IsTaken sizes first i (instance_value task e xs k o (point_at o.port.shape i))
       (if ok then value (record { ins = e.ins; nums = map number_of xs; at = point_at o.port.shape i }) [] o.expr >>= fitted (width_at e.wide_out k) else Err Range)
   element_taken e xs ok none ok_is =
-      let g = record { ins = e.ins; nums = map number_of xs; at = point_at o.port.shape i } in
+      let g : Given = record { ins = e.ins; nums = map number_of xs; at = point_at o.port.shape i } in
       let w = width_at e.wide_out k in
       let r = value g [] o.expr in
       let by : (b : Bool) → IsTaken sizes first i (if b then in_width w (fault_at task k o (point_at o.port.shape i)) r else fault_at task k o (point_at o.port.shape i) Range) (if b then r >>= fitted w else Err Range)
@@ -158,5 +158,5 @@ module _ (task : ℕ) (e : Elementary) (xs : List Val) where
 pub before_at : (sizes : List (List ℕ)) (task port : ℕ) (own : List ℕ) → slice_get sizes task ≡ Some own → points_before sizes task port ≡ points_before sizes task 0 + sum (take port own)
 before_at [] zero port own h = absurd (cc)
 before_at [] (suc task) port own h = absurd (cc)
-before_at (ports ∷ tasks) zero port own h = let e : ports ≡ own = cc in ap (λ ps. sum (take port ps)) e
+before_at (ports ∷ tasks) zero port own h = let e : ports ≡ own = cc in let z : 0 + sum (take port own) ≡ sum (take port own) = omega arith in ap (λ ps. sum (take port ps)) e ∙ sym z
 before_at (ports ∷ tasks) (suc task) port own h = let more = before_at tasks task port own h in omega (arith, more)

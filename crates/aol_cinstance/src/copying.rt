@@ -1,6 +1,6 @@
 //! The statements of a copy.
 
-ghost use Rattle.std.specs.Prelude.{◌≡◌, ℕ, List, negsuc, IfOk};
+ghost use Rattle.std.specs.Prelude.{◌≡◌, ◌+◌, ℕ, List, negsuc, IfOk};
 ghost use Rattle.aol_csyn.specs.Stored.{expr_of};
 ghost use Rattle.aol_csyn.specs.Tree.{bin, cell_f, cell_v, num, tab};
 ghost use Rattle.aol_csyn.specs.declared.program.COp.TheVariants.{Sub};
@@ -78,8 +78,8 @@ fn copying(alloc: Global, tables: Tables) -> Result<Items<CStmt>, NoMemory>
 
 /// The statements of a copy: its cell takes what it reads, a fault as it is.
 pub fn lower_copy(alloc: Global, tables: Tables) -> Result<Items<CStmt>, NoMemory>
-    ensures value { IfOk result (λ body. (sizes : List (List ℕ)) → Gives sizes tables 1 1 VALUE (λ xs. xs) (trees_of body)) }
-    ensures formed { IfOk result (λ body. AreBodies tables VALUE (trees_of body)) }
+    ensures value { IfOk result (λ body. (sizes : List (List ℕ)) → Gives sizes tables 1 1 (VALUE + 2) (λ xs. xs) (trees_of body)) }
+    ensures formed { IfOk result (λ body. AreBodies tables (VALUE + 2) (trees_of body)) }
 {
     copying(alloc, tables)
 }

@@ -1,0 +1,90 @@
+//! Cursors over what the instances of all leaves read and write.
+
+use crate::gathered::Gathered;
+use aol_flat::{Flat, LeafReads, LeafWrites, Read};
+use aol_shape::NoMemory;
+use std::alloc::Global;
+
+/// Both cursors of each leaf, with buffers for one instance of any.
+#[derive(Drop)]
+pub struct Cursors<'a> {
+    reads: Vec<LeafReads<'a>>,
+    writes: Vec<LeafWrites<'a>>,
+    taken: Vec<Read>,
+    written: Vec<u32>,
+}
+
+/// Adds a cursor over reads.
+fn push_reads<'a>(
+    cursors: &mut Vec<LeafReads<'a>>,
+    cursor: LeafReads<'a>,
+) -> Result<(), NoMemory> {
+    match cursors.push(cursor) {
+        Ok(()) => Ok(()),
+        Err(_) => Err(NoMemory),
+    }
+}
+
+/// Adds a cursor over writes.
+fn push_writes<'a>(
+    cursors: &mut Vec<LeafWrites<'a>>,
+    cursor: LeafWrites<'a>,
+) -> Result<(), NoMemory> {
+    match cursors.push(cursor) {
+        Ok(()) => Ok(()),
+        Err(_) => Err(NoMemory),
+    }
+}
+
+impl<'a> Cursors<'a> {
+    /// Cursors at the first instances.
+    pub fn of(alloc: Global, flat: &'a Flat) -> Result<Cursors<'a>, NoMemory> {
+        let mut reads = Vec::new(alloc);
+        let mut writes = Vec::new(alloc);
+        let mut most_read = 0;
+        let mut most_written = 0;
+        for leaf in 0..flat.leaves() {
+            let read = flat.reads(alloc, leaf)?;
+            most_read = read.many().max(most_read);
+            push_reads(&mut reads, read)?;
+            let write = flat.writes(alloc, leaf)?;
+            most_written = write.many().max(most_written);
+            push_writes(&mut writes, write)?;
+        }
+        let taken = vec![in alloc; Read::Const(0); most_read as usize]?;
+        let written = vec![in alloc; 0u32; most_written as usize]?;
+        Ok(Cursors {
+            reads,
+            writes,
+            taken,
+            written,
+        })
+    }
+
+    /// How many elements each instance of a leaf reads.
+    pub fn reads_each(&self, leaf: u32) -> u32 {
+        self.reads.as_slice()[leaf as usize].many()
+    }
+
+    /// How many it writes.
+    pub fn writes_each(&self, leaf: u32) -> u32 {
+        self.writes.as_slice()[leaf as usize].many()
+    }
+
+    /// Adds what an instance of a leaf reads and writes to the tables; `number` is its own among those of the leaf.
+    pub fn gather(
+        &mut self,
+        leaf: u32,
+        number: u32,
+        tables: &mut Gathered,
+    ) -> Result<(), NoMemory> {
+        let read = &mut self.reads.as_mut_slice()[leaf as usize];
+        let many = read.many() as usize;
+        read.of(number, &mut self.taken.as_mut_slice()[..many]);
+        tables.add_reads(&self.taken.as_slice()[..many])?;
+        let write = &mut self.writes.as_mut_slice()[leaf as usize];
+        let many = write.many() as usize;
+        write.of(number, &mut self.written.as_mut_slice()[..many]);
+        tables.add_writes(&self.written.as_slice()[..many])
+    }
+}

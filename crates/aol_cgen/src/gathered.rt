@@ -19,8 +19,10 @@ fn push(list: &mut Vec<i64>, number: i64) -> Result<(), NoMemory> {
     if u32::try_from(list.len()).is_err() {
         return Err(NoMemory);
     }
-    list.push(number)?;
-    Ok(())
+    match list.push(number) {
+        Ok(()) => Ok(()),
+        Err(_) => Err(NoMemory),
+    }
 }
 
 impl Gathered {

@@ -6,8 +6,10 @@ use std::alloc::Global;
 
 /// Adds a number.
 fn push(list: &mut Vec<u64>, number: u64) -> Result<(), NoMemory> {
-    list.push(number)?;
-    Ok(())
+    match list.push(number) {
+        Ok(()) => Ok(()),
+        Err(_) => Err(NoMemory),
+    }
 }
 
 /// The points of some output ports, after so many others.

@@ -11,3 +11,5 @@ pub mod Whole
 pub mod Fits
 pub mod BodyFits
 pub mod CopyDoes
+pub mod PortsMade
+pub mod MadeOf

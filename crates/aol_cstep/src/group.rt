@@ -1,6 +1,7 @@
 ghost use Rattle.std.specs.Prelude.{◌≡◌, ◌+◌, ◌<◌, ◌^◌, ◌++◌, ◌∷◌, [], IfOk, pos};
 ghost use Rattle.aol_csyn.specs.Stored.{expr_of, stmt_of};
 ghost use Rattle.aol_lower.specs.Stored.{trees_of};
+ghost use Rattle.aol_cstep.specs.Effect.{GroupFills, GroupIsFormed};
 ghost use Rattle.aol_cstep.specs.Statements.{group_loop, place, turn};
 
 use aol_cinstance::{CELLS, INSTANCE, READS};
@@ -41,14 +42,24 @@ fn turn(alloc: Global, group: Group, instance: Items<CStmt>) -> Result<Items<CSt
     Ok(body)
 }
 
-/// The loop over a group of instances with these statements.
+/// The loop, as it is defined.
+fn group_loop(alloc: Global, group: Group, instance: Items<CStmt>) -> Result<CStmt, NoMemory>
+    ensures { IfOk result (λ st. stmt_of st ≡ group_loop group (trees_of instance)) }
+{
+    let body = turn(alloc, group, instance)?;
+    Ok(CStmt::For(INSTANCE, 0, i64::from(group.count), body))
+}
+
+/// The loop over a group of instances, each of which does these statements.
+///
+/// It sets the places of each instance's entries and cells, and then does them.
 pub fn lower_group(
     alloc: Global,
     group: Group,
     instance: Items<CStmt>,
 ) -> Result<CStmt, NoMemory>
-    ensures { IfOk result (λ st. stmt_of st ≡ group_loop group (trees_of instance)) }
+    ensures value { IfOk result (λ st. GroupFills group (trees_of instance) (stmt_of st)) }
+    ensures formed { IfOk result (λ st. GroupIsFormed (trees_of instance) (stmt_of st)) }
 {
-    let body = turn(alloc, group, instance)?;
-    Ok(CStmt::For(INSTANCE, 0, i64::from(group.count), body))
+    group_loop(alloc, group, instance)
 }

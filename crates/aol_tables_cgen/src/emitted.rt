@@ -57,7 +57,7 @@ fn emitted(
 
 /// The program read back from its text.
 fn read_back(alloc: Global, program: &CProgram) -> Result<CProgram, Fail> {
-    let room = Items::from_vec(vec![in alloc; 0u8; 4000000]?);
+    let room = Items::from_vec(vec![in alloc; 0u8; 200000]?);
     let mut sink = MemSink::new(room, 4096, Items::new(alloc)).ok_or("no sink")?;
     if write_c(program, &mut sink).is_err() {
         return Err("not written".into());
@@ -125,85 +125,111 @@ fn ends(
     ran(alloc, &read, case.memory, order)
 }
 
-#[test]
-fn programs_compute_the_models(rt: HostRuntime) -> Result<(), Fail> {
-    let cases = [
-        Case {
-            tasks: models::ADD,
-            main: "Add",
-            memory: &[1, 2, 3, 4, 10, 20, 30, 40],
-            expected: "V 1 2 3 4 10 20 30 40 11 22 33 44 F 0 0 0 0 0 0 0 0 0 0 0 0",
-        },
-        Case {
-            tasks: models::RUNNING,
-            main: "Run6",
-            memory: &[1, 2, 3, 4, 5, 6],
-            expected: "V 1 2 3 4 5 6 1 3 6 10 15 21 F 0 0 0 0 0 0 0 0 0 0 0 0",
-        },
-        Case {
-            tasks: models::TWO,
-            main: "Two",
-            memory: &[1, 2, 3],
-            expected: "V 1 2 3 1 3 6 6 5 3 F 0 0 0 0 0 0 0 0 0",
-        },
-        Case {
-            tasks: models::PASS_TWO,
-            main: "Pass2",
-            memory: &[1, 2, 3],
-            expected: "V 1 2 3 21 41 61 10 11 0 20 21 0 30 31 0 F 0 0 0 0 0 0 0 0 0 0 0 0 0 0 0",
-        },
-        Case {
-            tasks: models::FLIP,
-            main: "Flip",
-            memory: &[1, 2, 3, 4, 5, 6],
-            expected: "V 1 2 3 4 5 6 1 4 2 5 3 6 F 0 0 0 0 0 0 0 0 0 0 0 0",
-        },
-        Case {
-            tasks: models::CHAIN,
-            main: "Chain",
-            memory: &[1, 2, 3, 4, 5, 6, 7, 8],
-            expected: "V 1 2 3 4 5 6 7 8 20 36 52 44 11 6 9 12 15 18 21 16 F 0 0 0 0 0 0 0 0 0 0 0 0 0 0 0 0 0 0 0 0",
-        },
-        // Faults, in cells and passed on.
-        Case {
-            tasks: models::NEED,
-            main: "Need1",
-            memory: &[9223372036854775807],
-            expected: "V 9223372036854775807 0 9223372036854775807 0 F 0 5 0 5",
-        },
-        Case {
-            tasks: models::SQUARES,
-            main: "Sq",
-            memory: &[182, 0, 32768],
-            expected: "V 182 0 32768 0 0 0 F 0 0 0 4 0 4",
-        },
-        Case {
-            tasks: models::MIXED,
-            main: "Mix",
-            memory: &[1, 2, 3, 4, 5, 16, 0, 5],
-            expected: "V 1 2 3 4 5 16 0 5 0 12 1 2 4 5 F 0 0 0 0 0 0 0 0 2 0 0 0 0 0",
-        },
-        Case {
-            tasks: models::MIXED,
-            main: "Mix",
-            memory: &[1, 2, 3, 4, 5, 16, 2, 1],
-            expected: "V 1 2 3 4 5 16 2 1 7 62 0 0 0 0 F 0 0 0 0 0 0 0 0 0 0 11 15 19 23",
-        },
-        Case {
-            tasks: models::COUNTS,
-            main: "Count",
-            memory: &[],
-            expected: "V 0 1 2 10 11 12 F 0 0 0 0 0 0",
-        },
-    ];
-    let alloc = rt.alloc();
-    for case in &cases {
-        for workers in [1, 2, 5] {
-            for order in [Order::Up, Order::Down] {
-                let found = ends(alloc, case, workers, order)?;
-                assert!(rt; found.as_str() == case.expected, "{}", found);
-            }
+/// Models whose outputs are numbers.
+const PLAIN: [Case; 6] = [
+    Case {
+        tasks: models::ADD,
+        main: "Add",
+        memory: &[1, 2, 3, 4, 10, 20, 30, 40],
+        expected: "V 1 2 3 4 10 20 30 40 11 22 33 44 F 0 0 0 0 0 0 0 0 0 0 0 0",
+    },
+    Case {
+        tasks: models::RUNNING,
+        main: "Run6",
+        memory: &[1, 2, 3, 4, 5, 6],
+        expected: "V 1 2 3 4 5 6 1 3 6 10 15 21 F 0 0 0 0 0 0 0 0 0 0 0 0",
+    },
+    Case {
+        tasks: models::TWO,
+        main: "Two",
+        memory: &[1, 2, 3],
+        expected: "V 1 2 3 1 3 6 6 5 3 F 0 0 0 0 0 0 0 0 0",
+    },
+    Case {
+        tasks: models::PASS_TWO,
+        main: "Pass2",
+        memory: &[1, 2, 3],
+        expected: "V 1 2 3 21 41 61 10 11 0 20 21 0 30 31 0 F 0 0 0 0 0 0 0 0 0 0 0 0 0 0 0",
+    },
+    Case {
+        tasks: models::FLIP,
+        main: "Flip",
+        memory: &[1, 2, 3, 4, 5, 6],
+        expected: "V 1 2 3 4 5 6 1 4 2 5 3 6 F 0 0 0 0 0 0 0 0 0 0 0 0",
+    },
+    Case {
+        tasks: models::CHAIN,
+        main: "Chain",
+        memory: &[1, 2, 3, 4, 5, 6, 7, 8],
+        expected: "V 1 2 3 4 5 6 7 8 20 36 52 44 11 6 9 12 15 18 21 16 F 0 0 0 0 0 0 0 0 0 0 0 0 0 0 0 0 0 0 0 0",
+    },
+];
+
+/// Models with faults, in cells and passed on, and operators of all kinds.
+const FAULTY: [Case; 5] = [
+    Case {
+        tasks: models::NEED,
+        main: "Need1",
+        memory: &[9223372036854775807],
+        expected: "V 9223372036854775807 0 9223372036854775807 0 F 0 5 0 5",
+    },
+    Case {
+        tasks: models::SQUARES,
+        main: "Sq",
+        memory: &[182, 0, 32768],
+        expected: "V 182 0 32768 0 0 0 F 0 0 0 4 0 4",
+    },
+    Case {
+        tasks: models::MIXED,
+        main: "Mix",
+        memory: &[1, 2, 3, 4, 5, 16, 0, 5],
+        expected: "V 1 2 3 4 5 16 0 5 0 12 1 2 4 5 F 0 0 0 0 0 0 0 0 2 0 0 0 0 0",
+    },
+    Case {
+        tasks: models::MIXED,
+        main: "Mix",
+        memory: &[1, 2, 3, 4, 5, 16, 2, 1],
+        expected: "V 1 2 3 4 5 16 2 1 7 62 0 0 0 0 F 0 0 0 0 0 0 0 0 0 0 11 15 19 23",
+    },
+    Case {
+        tasks: models::COUNTS,
+        main: "Count",
+        memory: &[],
+        expected: "V 0 1 2 10 11 12 F 0 0 0 0 0 0",
+    },
+];
+
+/// Whether all cases end as expected.
+fn all_end(alloc: Global, cases: &[Case], workers: u32, order: Order) -> Result<bool, Fail> {
+    for case in cases {
+        let found = ends(alloc, case, workers, order)?;
+        if found.as_str() != case.expected {
+            return Ok(false);
         }
     }
+    Ok(true)
+}
+
+#[test]
+fn one_worker_computes_numbers(rt: HostRuntime) -> Result<(), Fail> {
+    assert!(rt; all_end(rt.alloc(), &PLAIN, 1, Order::Up)?);
+    Ok(())
+}
+
+#[test]
+fn two_workers_compute_numbers_backwards(rt: HostRuntime) -> Result<(), Fail> {
+    assert!(rt; all_end(rt.alloc(), &PLAIN, 2, Order::Down)?);
+    Ok(())
+}
+
+#[test]
+fn one_worker_computes_faults(rt: HostRuntime) -> Result<(), Fail> {
+    assert!(rt; all_end(rt.alloc(), &FAULTY, 1, Order::Up)?);
+    Ok(())
+}
+
+#[test]
+fn three_workers_compute_faults_backwards(rt: HostRuntime) -> Result<(), Fail> {
+    assert!(rt; all_end(rt.alloc(), &FAULTY, 3, Order::Down)?);
     Ok(())
 }

@@ -1,1 +1,4 @@
-
+pub mod Gathered
+pub mod Groups
+pub mod Program
+pub mod Cursors

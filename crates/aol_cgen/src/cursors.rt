@@ -1,5 +1,12 @@
 //! Cursors over what the instances of all leaves read and write.
 
+ghost use Rattle.std.specs.Prelude.{◌≡◌, ◌<◌, ◌+◌, ◌++◌, ◌∷◌, [], IfOk, OnOk, length};
+ghost use Rattle.aol_flat.specs.Instance.{leaves};
+ghost use Rattle.aol_flat.specs.LeafCursor.{first_on, instances_on, reads_each, writes_each};
+ghost use Rattle.aol_flat.specs.Net.{Net, IsNetOf};
+ghost use Rattle.aol_cgen.specs.Cursors.{AreCursorsOf};
+ghost use Rattle.aol_cgen.specs.Gathered.{numbers_in, with_instance};
+
 use crate::gathered::Gathered;
 use aol_flat::{Flat, LeafReads, LeafWrites, Read};
 use aol_shape::NoMemory;
@@ -18,7 +25,9 @@ pub struct Cursors<'a> {
 fn push_reads<'a>(
     cursors: &mut Vec<LeafReads<'a>>,
     cursor: LeafReads<'a>,
-) -> Result<(), NoMemory> {
+) -> Result<(), NoMemory>
+    ensures { OnOk result (cursors.new.items ≡ cursors.old.items ++ cursor.entry ∷ []) }
+{
     match cursors.push(cursor) {
         Ok(()) => Ok(()),
         Err(_) => Err(NoMemory),
@@ -29,7 +38,9 @@ fn push_reads<'a>(
 fn push_writes<'a>(
     cursors: &mut Vec<LeafWrites<'a>>,
     cursor: LeafWrites<'a>,
-) -> Result<(), NoMemory> {
+) -> Result<(), NoMemory>
+    ensures { OnOk result (cursors.new.items ≡ cursors.old.items ++ cursor.entry ∷ []) }
+{
     match cursors.push(cursor) {
         Ok(()) => Ok(()),
         Err(_) => Err(NoMemory),
@@ -38,7 +49,9 @@ fn push_writes<'a>(
 
 impl<'a> Cursors<'a> {
     /// Cursors at the first instances.
-    pub fn of(alloc: Global, flat: &'a Flat) -> Result<Cursors<'a>, NoMemory> {
+    pub fn of(alloc: Global, flat: &'a Flat) -> Result<Cursors<'a>, NoMemory>
+        ensures { IfOk result (AreCursorsOf flat.now) }
+    {
         let mut reads = Vec::new(alloc);
         let mut writes = Vec::new(alloc);
         let mut most_read = 0;
@@ -62,12 +75,20 @@ impl<'a> Cursors<'a> {
     }
 
     /// How many elements each instance of a leaf reads.
-    pub fn reads_each(&self, leaf: u32) -> u32 {
+    pub fn reads_each(&self, leaf: u32, flat: &Flat) -> u32
+        requires cursors { AreCursorsOf flat.now self.now }
+        requires leaf { leaf < length (leaves flat.now.model) }
+        ensures { result ≡ reads_each flat.now.model leaf }
+    {
         self.reads.as_slice()[leaf as usize].many()
     }
 
     /// How many it writes.
-    pub fn writes_each(&self, leaf: u32) -> u32 {
+    pub fn writes_each(&self, leaf: u32, flat: &Flat) -> u32
+        requires cursors { AreCursorsOf flat.now self.now }
+        requires leaf { leaf < length (leaves flat.now.model) }
+        ensures { result ≡ writes_each flat.now.model leaf }
+    {
         self.writes.as_slice()[leaf as usize].many()
     }
 
@@ -77,7 +98,14 @@ impl<'a> Cursors<'a> {
         leaf: u32,
         number: u32,
         tables: &mut Gathered,
-    ) -> Result<(), NoMemory> {
+        flat: &Flat,
+    ) -> Result<(), NoMemory>
+        requires cursors { AreCursorsOf flat.now self.old }
+        requires leaf { leaf < length (leaves flat.now.model) }
+        requires number { number < instances_on flat.now.model leaf }
+        ensures cursors { AreCursorsOf flat.now self.new }
+        ensures tables { OnOk result ((net : Net) → IsNetOf flat.now net → numbers_in tables.new ≡ with_instance net (numbers_in tables.old) (first_on flat.now.model leaf + number)) }
+    {
         let read = &mut self.reads.as_mut_slice()[leaf as usize];
         let many = read.many() as usize;
         read.of(number, &mut self.taken.as_mut_slice()[..many]);

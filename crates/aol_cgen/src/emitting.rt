@@ -1,5 +1,12 @@
 //! The whole program.
 
+ghost use Rattle.std.specs.Prelude.{◌≡◌, ◌≤◌, ◌<◌, ◌*◌, ◌⊎◌, ◌↔◌, IfOk, OnOk, All, IsTrue, Err, length, take, slice_index};
+ghost use Rattle.aol_csyn.specs.Stored.{program_of};
+ghost use Rattle.aol_allocate.specs.Placement.{IsPlacement};
+ghost use Rattle.aol_flat.specs.Accept.{IsAccepted};
+ghost use Rattle.aol_flat.specs.InstanceNeed.{AreLevelsOf};
+ghost use Rattle.aol_cgen.specs.Program.{IsTooLarge, ProgramOf};
+
 use crate::cursors::Cursors;
 use crate::gathered::Gathered;
 use crate::marks::points_before;
@@ -17,7 +24,9 @@ use std::alloc::Global;
 pub const MAX_EMITTED: u32 = 1_048_576;
 
 /// Whether a model with so many instances, levels and workers is too large.
-fn is_too_large(instances: u32, levels: u32, workers: u32) -> bool {
+fn is_too_large(instances: u32, levels: u32, workers: u32) -> bool
+    ensures { IsTrue result ↔ ((MAX_EMITTED < instances) ⊎ (MAX_EMITTED < levels * workers)) }
+{
     instances > MAX_EMITTED || u64::from(levels) * u64::from(workers) > u64::from(MAX_EMITTED)
 }
 
@@ -90,7 +99,14 @@ pub fn emit(
     flat: &Flat,
     levels: &Levels,
     placed: &Placed,
-) -> Result<CProgram, EmitRefused> {
+) -> Result<CProgram, EmitRefused>
+    requires accepted { IsAccepted flat.now.model }
+    requires levels { AreLevelsOf flat.now.model levels.now }
+    requires placement { IsPlacement flat.now.model placed.now.of_instance placed.now.workers }
+    ensures program { IfOk result (λ p. ProgramOf flat.now levels.now placed.now.of_instance placed.now.workers (program_of p)) }
+    ensures small { OnOk result (¬ IsTooLarge flat.now.model levels.now placed.now.workers) }
+    ensures large { result ≡ Err EmitRefused.Limit → IsTooLarge flat.now.model levels.now placed.now.workers }
+{
     if is_too_large(flat.instances(), levels.count(), placed.workers()) {
         return Err(EmitRefused::Limit);
     }

@@ -1,5 +1,9 @@
 //! The numbers of the program's tables.
 
+ghost use Rattle.std.specs.Prelude.{◌≡◌, ◌<◌, ◌^◌, ◌++◌, ◌∷◌, [], IfOk, OnOk, length};
+ghost use Rattle.aol_csyn.specs.Stored.{tables_of};
+ghost use Rattle.aol_cgen.specs.Gathered.{no_numbers, numbers_in, with_cells, with_reads};
+
 use aol_csyn::Table;
 use aol_flat::Read;
 use aol_shape::{Items, NoMemory};
@@ -15,8 +19,11 @@ pub struct Gathered {
 }
 
 /// Adds a number to a table, which a u32 counts.
-fn push(list: &mut Vec<i64>, number: i64) -> Result<(), NoMemory> {
-    if u32::try_from(list.len()).is_err() {
+fn push(list: &mut Vec<i64>, number: i64) -> Result<(), NoMemory>
+    ensures list { OnOk result (list.new.items ≡ list.old.items ++ number ∷ []) }
+    ensures few { OnOk result (length list.new.items < 2 ^ 32) }
+{
+    if list.len() >= u32::MAX as usize {
         return Err(NoMemory);
     }
     match list.push(number) {
@@ -27,7 +34,9 @@ fn push(list: &mut Vec<i64>, number: i64) -> Result<(), NoMemory> {
 
 impl Gathered {
     /// Tables without a read and a write.
-    pub fn new(alloc: Global) -> Result<Gathered, NoMemory> {
+    pub fn new(alloc: Global) -> Result<Gathered, NoMemory>
+        ensures { IfOk result (λ g. numbers_in g ≡ no_numbers) }
+    {
         let mut tables = Gathered {
             entries: Vec::new(alloc),
             numbers: Vec::new(alloc),
@@ -40,7 +49,9 @@ impl Gathered {
     }
 
     /// Adds what an instance reads.
-    pub fn add_reads(&mut self, reads: &[Read]) -> Result<(), NoMemory> {
+    pub fn add_reads(&mut self, reads: &[Read]) -> Result<(), NoMemory>
+        ensures { OnOk result (numbers_in self.new ≡ with_reads (numbers_in self.old) reads.now) }
+    {
         for read in reads {
             match *read {
                 Read::Cell(cell) => push(&mut self.entries, i64::from(cell))?,
@@ -55,7 +66,9 @@ impl Gathered {
     }
 
     /// Adds what it writes.
-    pub fn add_writes(&mut self, writes: &[u32]) -> Result<(), NoMemory> {
+    pub fn add_writes(&mut self, writes: &[u32]) -> Result<(), NoMemory>
+        ensures { OnOk result (numbers_in self.new ≡ with_cells (numbers_in self.old) writes.now) }
+    {
         for cell in writes {
             push(&mut self.cells, i64::from(*cell))?;
         }
@@ -63,7 +76,9 @@ impl Gathered {
     }
 
     /// The tables in the order of their numbers.
-    pub fn tables(self, alloc: Global) -> Result<Items<Table>, NoMemory> {
+    pub fn tables(self, alloc: Global) -> Result<Items<Table>, NoMemory>
+        ensures { IfOk result (λ ts. tables_of ts ≡ self.entries.items ∷ self.numbers.items ∷ self.cells.items ∷ []) }
+    {
         let Gathered {
             entries,
             numbers,

@@ -147,9 +147,9 @@ module _ (m : Model) (net : Net) (cells inputs : ℕ) (levels : List ℕ) (level
 pub emitted_is_right : EmittedIsRight
 emitted_is_right m net cells inputs levels level_count workers worker_count p shared emitted mem given settled orders are_orders a v_length f_length main =
     let Q : ℕ → Type 0 = λ n. (i : ℕ) (order : List ℕ) → slice_get orders i ≡ Some order → IsWorkerOrder n order in
-    let each : Q worker_count = subst Q emitted.of_workers are_orders.1 in
+    let each : Q worker_count = subst Q emitted.of_workers are_orders.each in
     let ran =
-    run_levels m net cells inputs levels level_count workers worker_count p shared emitted mem given settled a orders 0 a (omega (arith, are_orders.0, emitted.of_levels)) each
+    run_levels m net cells inputs levels level_count workers worker_count p shared emitted mem given settled a orders 0 a (omega (arith, are_orders.count, emitted.of_levels)) each
     (record {
       ready = record { v_length = v_length; f_length = f_length; main_inputs = main; lower = λ c b. absurd (omega (arith, b.below)) };
       own = λ w c n o. absurd (omega (arith, n.1.0));

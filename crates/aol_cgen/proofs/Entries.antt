@@ -1,5 +1,5 @@
 -- Where the numbers of instances stand in the tables.
-use Rattle.std.specs.Prelude.{◌≡◌, ℕ, zero, suc, ◌+◌, ◌*◌, ◌<◌, ℤ, pos, negsuc, List, [], ◌∷◌, ◌++◌, map, length, slice_get, Option, Some}
+use Rattle.std.specs.Prelude.{◌≡◌, ℕ, zero, suc, ◌+◌, ◌*◌, ◌<◌, ◌≤◌, ℤ, pos, negsuc, List, [], ◌∷◌, ◌++◌, map, length, slice_get, Option, Some}
 use Rattle.std.proofs.Common.{refl, sym, ap, subst, arith, ◌∙◌, append_assoc}
 use Rattle.std.proofs.lemmas.List.{append-nil, length-append}
 use Rattle.aol_flat.specs.Net.{Net, reads_at, writes_at}
@@ -15,23 +15,25 @@ pub record Begins (a b : Numbers) : Type 0 where
   pub entries : (k : ℕ) (z : ℤ) → slice_get a.entries k ≡ Some z → slice_get b.entries k ≡ Some z
   pub numbers : (k : ℕ) (z : ℤ) → slice_get a.numbers k ≡ Some z → slice_get b.numbers k ≡ Some z
   pub cells : (k : ℕ) (z : ℤ) → slice_get a.cells k ≡ Some z → slice_get b.cells k ≡ Some z
+  pub entries_low : length a.entries ≤ length b.entries
+  pub cells_low : length a.cells ≤ length b.cells
 
 pub begins_self : (a : Numbers) → Begins a a
-begins_self a = record { entries = λ k z h. h; numbers = λ k z h. h; cells = λ k z h. h }
+begins_self a = record { entries = λ k z h. h; numbers = λ k z h. h; cells = λ k z h. h; entries_low = omega arith; cells_low = omega arith }
 
 pub begins_then : (a b c : Numbers) → Begins a b → Begins b c → Begins a c
-begins_then a b c p q = record { entries = λ k z h. q.entries k z (p.entries k z h); numbers = λ k z h. q.numbers k z (p.numbers k z h); cells = λ k z h. q.cells k z (p.cells k z h) }
+begins_then a b c p q = record { entries = λ k z h. q.entries k z (p.entries k z h); numbers = λ k z h. q.numbers k z (p.numbers k z h); cells = λ k z h. q.cells k z (p.cells k z h); entries_low = let x = p.entries_low in let y = q.entries_low in omega (arith, x, y); cells_low = let x = p.cells_low in let y = q.cells_low in omega (arith, x, y) }
 
 read_begins : (t : Numbers) (r : Read) → Begins t (with_read t r)
-read_begins t (Cell c) = record { entries = λ k z h. get_before t.entries (pos c ∷ []) k z h; numbers = λ k z h. h; cells = λ k z h. h }
-read_begins t (Const n) = record { entries = λ k z h. get_before t.entries (negsuc (length t.numbers) ∷ []) k z h; numbers = λ k z h. get_before t.numbers (n ∷ []) k z h; cells = λ k z h. h }
+read_begins t (Cell c) = record { entries = λ k z h. get_before t.entries (pos c ∷ []) k z h; numbers = λ k z h. h; cells = λ k z h. h; entries_low = (let n = length-append t.entries (pos c ∷ []) in omega (arith, n)); cells_low = omega arith }
+read_begins t (Const n) = record { entries = λ k z h. get_before t.entries (negsuc (length t.numbers) ∷ []) k z h; numbers = λ k z h. get_before t.numbers (n ∷ []) k z h; cells = λ k z h. h; entries_low = (let m = length-append t.entries (negsuc (length t.numbers) ∷ []) in omega (arith, m)); cells_low = omega arith }
 
 pub reads_begin : (t : Numbers) (rs : List Read) → Begins t (with_reads t rs)
 reads_begin t [] = begins_self t
 reads_begin t (r ∷ rs) = begins_then t (with_read t r) (with_reads (with_read t r) rs) (read_begins t r) (reads_begin (with_read t r) rs)
 
 cells_begin : (t : Numbers) (cs : List ℕ) → Begins t (with_cells t cs)
-cells_begin t cs = record { entries = λ k z h. h; numbers = λ k z h. h; cells = λ k z h. get_before t.cells (map pos cs) k z h }
+cells_begin t cs = record { entries = λ k z h. h; numbers = λ k z h. h; cells = λ k z h. get_before t.cells (map pos cs) k z h; entries_low = omega arith; cells_low = (let m = length-append t.cells (map pos cs) in omega (arith, m)) }
 
 pub instance_begins : (net : Net) (t : Numbers) (j : ℕ) → Begins t (with_instance net t j)
 instance_begins net t j = begins_then t (with_reads t (reads_at net j)) (with_instance net t j) (reads_begin t (reads_at net j)) (cells_begin (with_reads t (reads_at net j)) (writes_at net j))

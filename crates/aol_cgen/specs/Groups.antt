@@ -8,6 +8,7 @@ use Rattle.aol_csyn.specs.Tree.{Stmt}
 use Rattle.aol_flat.specs.Laid.{Laid}
 use Rattle.aol_flat.specs.Net.{Net, reads_at, writes_at}
 use Rattle.aol_cinstance.specs.declared.layout.Tables.{Tables}
+use Rattle.aol_cinstance.specs.declared.layout.TheConstants.{VALUE}
 use Rattle.aol_cinstance.specs.Effect.{AreBodies, Gives, out_sizes}
 use Rattle.aol_cinstance.specs.Values.{points_before}
 use Rattle.aol_cstep.specs.declared.group.Group.{Group}
@@ -35,6 +36,7 @@ pub record IsGroup (f : Laid) (net : Net) (vars : ℕ) (t : Numbers) (js : List 
   pub count : group.count ≡ length js
   pub least : ℕ
   pub enough : least ≤ vars
+  pub above : VALUE ≤ least
   pub instances : AreInstance f net least group.reads group.cells js instance
   pub fills : GroupFills group instance st
   pub formed : GroupIsFormed instance st

@@ -79,7 +79,7 @@ module _ (net : Net) (mem : Memory) (give : GiveForEach net) (settled : IsSettle
       beside (writes_at net j) (all_writes net js) (gives_in net mem j) (all_given net mem js) c (mem c) (as_many j) (λ n a. settled j n c a) (λ n a. all_beside js c n a) k at
 
 -- an entry of some list is one of all
-all_at : (f : ℕ → List ℕ) (js : List ℕ) (i j n c : ℕ) → slice_get js i ≡ Some j → slice_get (f j) n ≡ Some c → (k : ℕ) × (slice_get (flat_map f js) k ≡ Some c)
+pub all_at : (f : ℕ → List ℕ) (js : List ℕ) (i j n c : ℕ) → slice_get js i ≡ Some j → slice_get (f j) n ≡ Some c → (k : ℕ) × (slice_get (flat_map f js) k ≡ Some c)
 all_at f [] zero j n c h g = absurd (cc)
 all_at f [] (suc i) j n c h g = absurd (cc)
 all_at f (x ∷ js) zero j n c h g = let e : x ≡ j = cc in front (f x) (flat_map f js) n (ap (λ y. slice_get (f y) n) e ∙ g)

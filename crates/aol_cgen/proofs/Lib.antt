@@ -1,3 +1,4 @@
 pub mod Entries
 pub mod StepFills
 pub mod StepRight
+pub mod Growing

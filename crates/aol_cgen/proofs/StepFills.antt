@@ -181,12 +181,12 @@ module _ (f : Laid) (net : Net) (cells inputs : ℕ) (levels workers : List ℕ)
         (λ k c own. begins.cells (g.at + i * g.cells + k) (pos c) (subst (λ m. slice_get (with_all net t now).cells (m + k) ≡ Some (pos c)) at (all_cells net g.reads g.cells t now many i j.0 k c j.1 own))))
 
     taken_many : (i : ℕ) (w : Visit) → slice_get (map visit now) i ≡ Some w → length w.taken ≡ group.group.reads
-      taken_many i w is =
+    taken_many i w is =
         let j = map_at visit now i w is in
         ap (λ (x : Visit). length x.taken) (sym j.2) ∙ (map_length (read_value mem) (reads_at net j.0) ∙ group.instances.reads_many i j.0 j.1)
 
     cells_many : (i : ℕ) (w : Visit) → slice_get (map visit now) i ≡ Some w → length w.cells ≡ group.group.cells
-      cells_many i w is = let j = map_at visit now i w is in ap (λ (x : Visit). length x.cells) (sym j.2) ∙ group.instances.cells_many i j.0 j.1
+    cells_many i w is = let j = map_at visit now i w is in ap (λ (x : Visit). length x.cells) (sym j.2) ∙ group.instances.cells_many i j.0 j.1
 
     ready : AreReady Tb Sizes TABLES group.group All s.v s.f (map visit now)
     ready =

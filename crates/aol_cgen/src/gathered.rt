@@ -2,7 +2,7 @@
 
 ghost use Rattle.std.specs.Prelude.{◌≡◌, ◌<◌, ◌^◌, ◌++◌, ◌∷◌, [], IfOk, OnOk, length};
 ghost use Rattle.aol_csyn.specs.Stored.{tables_of};
-ghost use Rattle.aol_cgen.specs.Gathered.{no_numbers, numbers_in, with_cells, with_reads};
+ghost use Rattle.aol_cgen.specs.Gathered.{no_numbers, numbers_in, with_cells, with_read, with_reads};
 
 use aol_csyn::Table;
 use aol_flat::Read;
@@ -48,19 +48,26 @@ impl Gathered {
         Ok(tables)
     }
 
+    /// Adds a read.
+    fn add_read(&mut self, read: Read) -> Result<(), NoMemory>
+        ensures { OnOk result (numbers_in self.new ≡ with_read (numbers_in self.old) read) }
+    {
+        match read {
+            Read::Cell(cell) => push(&mut self.entries, i64::from(cell)),
+            Read::Const(number) => {
+                let place = self.numbers.len() as i64;
+                push(&mut self.numbers, number)?;
+                push(&mut self.entries, -1 - place)
+            }
+        }
+    }
+
     /// Adds what an instance reads.
     pub fn add_reads(&mut self, reads: &[Read]) -> Result<(), NoMemory>
         ensures { OnOk result (numbers_in self.new ≡ with_reads (numbers_in self.old) reads.now) }
     {
         for read in reads {
-            match *read {
-                Read::Cell(cell) => push(&mut self.entries, i64::from(cell))?,
-                Read::Const(number) => {
-                    let place = self.numbers.len() as i64;
-                    push(&mut self.numbers, number)?;
-                    push(&mut self.entries, -1 - place)?;
-                }
-            }
+            self.add_read(*read)?;
         }
         Ok(())
     }

@@ -1,24 +1,22 @@
 -- The statements of an instance are well formed.
-use Rattle.std.specs.Prelude.{◌≡◌, ℕ, zero, suc, ◌+◌, ◌*◌, ◌<◌, ◌≤◌, ◌^◌, ◌⊎◌, max, ℤ, pos, negsuc, true, false, List, [], ◌∷◌, ◌++◌, length}
+use Rattle.std.specs.Prelude.{◌≡◌, ℕ, ◌+◌, ◌*◌, ◌<◌, ◌≤◌, ◌^◌, ◌⊎◌, pos, negsuc, true, List, [], ◌∷◌, ◌++◌, length}
 use Rattle.std.specs.List.{AllByRecursion}
-use Rattle.std.proofs.Common.{refl, sym, ap, subst, arith, ◌∙◌, inl, inr}
+use Rattle.std.proofs.Common.{refl, sym, subst, arith, inl, inr}
 use Rattle.std.proofs.lemmas.List.Sums.{sum_by-cons}
 use Rattle.aol_shape.specs.Shape.{size, IsShape, IsEntry, max_points}
 use Rattle.aol_expr_tree.specs.Tree.{depth}
 use Rattle.aol_model_types.specs.declared.task.Elementary.{Elementary}
 use Rattle.aol_model_types.specs.declared.task.OutPort.{OutPort}
 use Rattle.aol_csyn.specs.declared.program.COp.TheVariants.{Add as Plus, Sub as Minus, Mul as Times, Div as Over, Rem as Rest, Le as AtMost, Eq as Equal}
-use Rattle.aol_csyn.specs.Tree.{Expr, num as number, var as variable, tab, cell_v, cell_f, bin as between, Stmt, set_var, put_v, put_f, stmts}
+use Rattle.aol_csyn.specs.Tree.{Expr, num as number, var as variable, tab, cell_v, cell_f, bin as between, Stmt, set_var, put_v, put_f}
 use Rattle.aol_csyn.specs.Form.{expr_depth, expr_formed}
-use Rattle.aol_lower.specs.Contract.{AreFormed, FittedAreFormed}
 use Rattle.aol_lower.specs.Effect.{AreShapes, patterns_size}
 use Rattle.aol_lower.specs.Lowered.{nought, guard, either}
-use Rattle.aol_lower.specs.Small.{room}
 use Rattle.aol_cinstance.specs.declared.layout.Tables.{Tables}
 use Rattle.aol_cinstance.specs.declared.layout.TheConstants.{INSTANCE, CELLS, RANK, REST, HELD, VALUE}
 use Rattle.aol_cinstance.specs.Effect.{AreBodies, IsBody, out_points, rooms, variables}
 use Rattle.aol_cinstance.specs.Made.{IsMade}
-use Rattle.aol_cinstance.specs.Statements.{cell_of, put_both, mark_here, settle, indices, point_here, element_here, port_loop, ArePorts, pass_on, compute, computing, entry_read, own_cell, copying}
+use Rattle.aol_cinstance.specs.Statements.{cell_of, put_both, mark_here, settle, indices, point_here, element_here, port_loop, ArePorts, pass_on, compute, entry_read, own_cell, copying}
 use Rattle.aol_cinstance.proofs.Fits.{var_fits, number_fits, between_fits, tab_fits, Fit, nothing_fits, append_fits, deeper, set_fits, put_v_fits, put_f_fits, either_fits, for_fits, lowered_fits, fewer}
 use Rattle.aol_cinstance.proofs.Rests.{rest_few}
 

@@ -1,5 +1,5 @@
 -- What the statements of a copy do.
-use Rattle.std.specs.Prelude.{◌≡◌, ℕ, zero, suc, ◌+◌, ◌<◌, ◌≤◌, ◌^◌, ℤ, pos, negsuc, ◌-ℤ◌, true, false, List, [], ◌∷◌, ◌++◌, length, slice_get, slice_set, Option, Some, option_and_then}
+use Rattle.std.specs.Prelude.{◌≡◌, ℕ, ◌+◌, ℤ, pos, negsuc, ◌-ℤ◌, true, List, [], ◌∷◌, Some, option_and_then}
 use Rattle.std.proofs.Common.{refl, sym, ap, subst, arith, ◌∙◌}
 use Rattle.std.proofs.Math.Dec.{leb-zero}
 use Rattle.std.proofs.lemmas.Int.{ints}
@@ -7,16 +7,16 @@ use Rattle.aol_shape.specs.Numbers.{fits_64}
 use Rattle.aol_expr_tree.specs.declared.value.Val.{Val}
 use Rattle.aol_flat.specs.InstanceValue.{number_of}
 use Rattle.aol_csyn.specs.declared.program.COp.TheVariants.{Sub as Minus, Le as AtMost}
-use Rattle.aol_csyn.specs.Tree.{Expr, num as number, var as variable, tab, cell_v, cell_f, bin as between}
-use Rattle.aol_csyn.specs.Meaning.{State, value, truth, checked, table_entry, with_v}
+use Rattle.aol_csyn.specs.Tree.{Expr, num as number, tab, cell_v, cell_f, bin as between}
+use Rattle.aol_csyn.specs.Meaning.{State, value, truth, checked, table_entry}
 use Rattle.aol_csyn.specs.Puts.{of_v, of_f}
 use Rattle.aol_lower.specs.Lowered.{nought}
 use Rattle.aol_lower.proofs.Steps.{between_is}
 use Rattle.aol_cinstance.specs.declared.layout.Tables.{Tables}
-use Rattle.aol_cinstance.specs.declared.layout.TheConstants.{CELLS, VALUE}
+use Rattle.aol_cinstance.specs.declared.layout.TheConstants.{VALUE}
 use Rattle.aol_cinstance.specs.Effect.{IsHeld, IsHeldAt, Stands, Writes, Gives}
 use Rattle.aol_cinstance.specs.Statements.{entry_read, own_cell, put_both, copying}
-use Rattle.aol_cinstance.specs.Values.{mark_of, both}
+use Rattle.aol_cinstance.specs.Values.{mark_of}
 use Rattle.aol_cinstance.proofs.Does.{Does, does_first, does_second}
 use Rattle.aol_cinstance.proofs.Settle.{put_cell, puts_both}
 

@@ -1,10 +1,10 @@
 -- What statements do: the state that they end in, and the places that they put.
-use Rattle.std.specs.Prelude.{◌≡◌, ℕ, zero, suc, ◌+◌, ◌-◌, ◌<◌, ℤ, pos, negsuc, ◌+ℤ◌, Bool, true, false, ◌&&◌, List, [], ◌∷◌, ◌++◌, length, slice_set, Option, Some, None, option_map, option_and_then, if◌then◌else◌}
+use Rattle.std.specs.Prelude.{◌≡◌, ℕ, zero, suc, ◌+◌, ◌-◌, ◌<◌, ℤ, pos, ◌+ℤ◌, Bool, true, false, ◌&&◌, List, [], ◌∷◌, ◌++◌, length, slice_set, Option, Some, None, option_and_then, if◌then◌else◌}
 use Rattle.std.proofs.Common.{refl, sym, ap, subst, arith, ◌∙◌, add-one, append_assoc}
 use Rattle.std.proofs.lemmas.List.{append-nil}
 use Rattle.std.proofs.lemmas.Bool.{lt-ltb}
 use Rattle.aol_csyn.specs.Tree.{Expr, Stmt, set_var, put_v, put_f, if_else, for_each, Stmts, stmts, no_stmts, stmt_and}
-use Rattle.aol_csyn.specs.Meaning.{State, value, is_zero, changed_at, with_v, with_f, with_var, turns, turn_count, run, run_all}
+use Rattle.aol_csyn.specs.Meaning.{State, value, is_zero, with_v, with_f, with_var, turns, turn_count, run, run_all}
 use Rattle.aol_csyn.specs.Puts.{Cell, of_v, of_f, cell_at, from_state, turn_puts, chosen, puts, all_puts}
 use Rattle.aol_csyn.proofs.Parts.{parts_follow}
 use Rattle.aol_lower.specs.Lowered.{either}

@@ -1,8 +1,8 @@
 -- Lists with numbers put at places, and fronts of lists.
-use Rattle.std.specs.Prelude.{◌≡◌, ℕ, zero, suc, ◌+◌, ◌<◌, ℤ, pos, List, [], ◌∷◌, ◌++◌, map, take, length, slice_get, slice_set, Option, Some, None}
-use Rattle.std.proofs.Common.{refl, sym, ap, arith, ◌∙◌}
+use Rattle.std.specs.Prelude.{◌≡◌, ℕ, zero, suc, ◌+◌, ◌<◌, ℤ, List, [], ◌∷◌, ◌++◌, map, take, length, slice_get, slice_set, Some}
+use Rattle.std.proofs.Common.{refl, ap, arith, ◌∙◌}
 use Rattle.std.proofs.lemmas.List.{length-set}
-use Rattle.aol_csyn.specs.Puts.{Cell, of_v, of_f}
+use Rattle.aol_csyn.specs.Puts.{of_v, of_f}
 use Rattle.aol_expr_tree.specs.Meaning.{nth_number}
 use Rattle.aol_cinstance.specs.Values.{set_all, both}
 

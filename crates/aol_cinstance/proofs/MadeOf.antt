@@ -1,6 +1,6 @@
 -- An instance's statements from their parts.
-use Rattle.std.specs.Prelude.{◌≡◌, ℕ, ◌+◌, ◌<◌, ◌^◌, List}
-use Rattle.std.proofs.Common.{refl, sym, ap, subst, arith, ◌∙◌}
+use Rattle.std.specs.Prelude.{◌≡◌, ℕ, ◌<◌, ◌^◌, List}
+use Rattle.std.proofs.Common.{ap, subst, arith, ◌∙◌}
 use Rattle.aol_expr_tree.specs.declared.port.Port.{Port}
 use Rattle.aol_expr_tree.specs.declared.value.Width.{Width}
 use Rattle.aol_model_types.specs.declared.task.OutPort.{OutPort}
@@ -21,16 +21,16 @@ made_of t e before reads cells search widths ports body ins also wide outs other
     let reads_is : reads ≡ patterns_size e.ins = reads_own ∙ ap patterns_size ins_is in
     let cells_is : cells ≡ out_points e.outs = cells_own ∙ ap out_points outs_is in
     record {
-  search = search;
-  widths = widths;
-  ports = ports;
-  made = made ∙ ap (λ n. computing t.cells n search widths ports) cells_is;
-  shapes = subst AreShapes ins_is shapes;
-  few_reads = omega (arith, few_reads, reads_is);
-  few_cells = omega (arith, few_cells, cells_is);
-  searches = subst (λ n. LeaveFirst t.reads n VALUE search) reads_is searches;
-  search_formed = search_formed;
-  tests = subst (λ ws. TestWidths t.reads e.ins ws VALUE widths) wide_is (subst (λ ps. TestWidths t.reads ps wide VALUE widths) also_is tests);
-  tests_formed = subst (λ ps. TestsAreFormed t.reads ps VALUE widths) also_is tests_formed;
-  are_ports = subst (λ os. ArePorts t e before 0 0 os ports) others_is are;
-}
+      search = search;
+      widths = widths;
+      ports = ports;
+      made = made ∙ ap (λ n. computing t.cells n search widths ports) cells_is;
+      shapes = subst AreShapes ins_is shapes;
+      few_reads = omega (arith, few_reads, reads_is);
+      few_cells = omega (arith, few_cells, cells_is);
+      searches = subst (λ n. LeaveFirst t.reads n VALUE search) reads_is searches;
+      search_formed = search_formed;
+      tests = subst (λ ws. TestWidths t.reads e.ins ws VALUE widths) wide_is (subst (λ ps. TestWidths t.reads ps wide VALUE widths) also_is tests);
+      tests_formed = subst (λ ps. TestsAreFormed t.reads ps VALUE widths) also_is tests_formed;
+      are_ports = subst (λ os. ArePorts t e before 0 0 os ports) others_is are;
+    }

@@ -1,7 +1,7 @@
 -- The variables from 2 on hold the point of a rank.
-use Rattle.std.specs.Prelude.{◌≡◌, ℕ, zero, suc, ◌+◌, ◌*◌, ◌/◌, ◌%◌, ◌<◌, ◌≤◌, ◌^◌, ℤ, pos, ◌==◌, Bool, true, false, List, [], ◌∷◌, ◌++◌, length, slice_get, Option, Some}
+use Rattle.std.specs.Prelude.{◌≡◌, ℕ, zero, suc, ◌+◌, ◌/◌, ◌%◌, ◌<◌, ◌≤◌, ◌^◌, ℤ, pos, true, false, List, [], ◌∷◌, length, slice_get, Some}
 use Rattle.std.specs.List.{AllByRecursion}
-use Rattle.std.proofs.Common.{refl, sym, ap, subst, arith, ◌∙◌}
+use Rattle.std.proofs.Common.{refl, sym, ap, arith, ◌∙◌}
 use Rattle.std.proofs.Math.Dec.{eqb-suc-zero}
 use Rattle.std.proofs.Math.Nat.{div-le_self, mod-le, mod-lt}
 use Rattle.std.proofs.lemmas.List.{length-set}
@@ -10,10 +10,10 @@ use Rattle.aol_shape.specs.Shape.{size, point_at, IsEntry}
 use Rattle.aol_shape.proofs.Sizes.{size_positive}
 use Rattle.aol_csyn.specs.declared.program.COp.TheVariants.{Div as Over, Rem as Rest}
 use Rattle.aol_csyn.specs.Tree.{num as number, var as variable, bin as between, set_var}
-use Rattle.aol_csyn.specs.Meaning.{State, value, applied, is_zero}
+use Rattle.aol_csyn.specs.Meaning.{State, applied, is_zero}
 use Rattle.aol_lower.proofs.Steps.{put, put_there, put_other, between_is}
-use Rattle.aol_cinstance.specs.declared.layout.TheConstants.{RANK, REST}
-use Rattle.aol_cinstance.specs.Statements.{indices, point_here}
+use Rattle.aol_cinstance.specs.declared.layout.TheConstants.{REST}
+use Rattle.aol_cinstance.specs.Statements.{indices}
 use Rattle.aol_cinstance.proofs.Does.{Does, does_then, does_nothing, does_set}
 use Rattle.aol_cinstance.proofs.Progress.{small_fits}
 

@@ -1,8 +1,7 @@
 -- The elements of an output port.
-use Rattle.std.specs.Prelude.{◌≡◌, ℕ, zero, suc, ◌+◌, ◌*◌, ◌%◌, ◌<◌, ◌≤◌, ◌^◌, ℤ, pos, negsuc, Bool, true, false, ◌&&◌, List, [], ◌∷◌, ◌++◌, map, take, length, slice_get, Option, Some, Result, Ok, Err, if◌then◌else◌}
+use Rattle.std.specs.Prelude.{◌≡◌, ℕ, suc, ◌+◌, ◌%◌, ◌<◌, ◌≤◌, ◌^◌, ℤ, pos, Bool, true, false, List, [], ◌∷◌, ◌++◌, map, take, length, slice_get, Some, Result, Err, if◌then◌else◌}
 use Rattle.std.proofs.Common.{refl, sym, ap, subst, arith, ◌∙◌}
-use Rattle.aol_shape.specs.Numbers.{fits_64}
-use Rattle.aol_shape.specs.Shape.{size, point_at, IsShape, max_points}
+use Rattle.aol_shape.specs.Shape.{size, point_at, IsShape}
 use Rattle.aol_expr_tree.specs.declared.value.Kind.{Kind}
 use Rattle.aol_expr_tree.specs.declared.value.Kind.TheVariants.{Range}
 use Rattle.aol_expr_tree.specs.declared.value.Val.{Val}
@@ -12,10 +11,10 @@ use Rattle.aol_model_types.specs.declared.task.Elementary.{Elementary}
 use Rattle.aol_model_types.specs.declared.task.OutPort.{OutPort}
 use Rattle.aol_flat.specs.InstanceValue.{number_of}
 use Rattle.aol_csyn.specs.Tree.{Stmt, stmts, var as variable, set_var}
-use Rattle.aol_csyn.specs.Meaning.{State, run, run_all}
+use Rattle.aol_csyn.specs.Meaning.{State, run}
 use Rattle.aol_csyn.specs.Puts.{Cell, of_v, of_f}
-use Rattle.aol_lower.specs.Contract.{LeaveFitted, FittedAreFormed}
-use Rattle.aol_lower.specs.Effect.{Keeps, Holds, IsGiven, AreShapes, Leaves, kind_number, patterns_size}
+use Rattle.aol_lower.specs.Contract.{LeaveFitted}
+use Rattle.aol_lower.specs.Effect.{Keeps, Holds, IsGiven, AreShapes, kind_number, patterns_size}
 use Rattle.aol_lower.specs.Lowered.{guard}
 use Rattle.aol_lower.specs.Ports.{fitted as fitted_in}
 use Rattle.aol_lower.specs.Quiet.{all_quiet}
@@ -26,11 +25,11 @@ use Rattle.aol_cinstance.specs.declared.layout.TheConstants.{INSTANCE, CELLS, RA
 use Rattle.aol_cinstance.specs.Effect.{Stands}
 use Rattle.aol_cinstance.specs.Statements.{indices, point_here, settle, element_here, port_loop}
 use Rattle.aol_cinstance.specs.Values.{both}
-use Rattle.aol_cinstance.proofs.Does.{Does, Turn, Loop, does_then, does_set, does_quietly, does_loop}
+use Rattle.aol_cinstance.proofs.Does.{Does, Turn, does_then, does_set, does_quietly, does_loop}
 use Rattle.aol_cinstance.proofs.Lists.{both_more, map_length}
-use Rattle.aol_cinstance.proofs.PointSteps.{Pointed, Sets, sets_indices}
+use Rattle.aol_cinstance.proofs.PointSteps.{Pointed, sets_indices}
 use Rattle.aol_cinstance.proofs.Progress.{Progress, progress_put, progress_keeps, numbers_read, nth_fits, map_fits}
-use Rattle.aol_cinstance.proofs.Settle.{IsTaken, Settled, settles}
+use Rattle.aol_cinstance.proofs.Settle.{IsTaken, settles}
 
 point_length : (shape : List ℕ) (r : ℕ) → length (point_at shape r) ≡ length shape
 point_length [] r = refl
@@ -155,9 +154,9 @@ module _ (tables : List (List ℤ)) (sizes : List (List ℕ)) (t : Tables) (xs :
         let rank3 : slice_get u3.vars RANK ≡ Some (pos i) = put_other 0 RANK held_mark u2 (λ e0. omega (arith, e0)) ∙ rank2 in
         let held3 : slice_get u3.vars HELD ≡ Some held_mark = put_other 0 HELD held_mark u2 (λ e0. omega (arith, e0)) ∙ held2 in
         let ev = evaluates i j u3 p3 (λ k index at.
-            let q = sets.pointed.point k index at in
-            let same : k + 2 ≡ 2 + k = omega arith in
-            (ap (slice_get u3.vars) same ∙ (put_other 0 (2 + k) held_mark u2 (λ e0. omega (arith, e0)) ∙ q.0), q.1)) ok refl (put_there 0 held_mark u2 nought_inside) in
+        let q = sets.pointed.point k index at in
+        let same : k + 2 ≡ 2 + k = omega arith in
+        (ap (slice_get u3.vars) same ∙ (put_other 0 (2 + k) held_mark u2 (λ e0. omega (arith, e0)) ∙ q.0), q.1)) ok refl (put_there 0 held_mark u2 nought_inside) in
         let p4 = progress_keeps tables sizes t xs cs values s st j u3 ev.end ev.keeps p3 in
         let rank4 : slice_get ev.end.vars RANK ≡ Some (pos i) = ev.keeps.below RANK (omega arith) (omega arith) ∙ rank3 in
         let held4 : slice_get ev.end.vars HELD ≡ Some held_mark = ev.keeps.below HELD (omega arith) (omega arith) ∙ held3 in

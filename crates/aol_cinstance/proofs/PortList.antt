@@ -1,5 +1,5 @@
 -- All output ports of an instance.
-use Rattle.std.specs.Prelude.{◌≡◌, ℕ, zero, suc, ◌+◌, ◌*◌, ◌<◌, ◌≤◌, ◌^◌, max, ℤ, pos, Bool, true, List, [], ◌∷◌, ◌++◌, map, flat_map, take, length, slice_get, sum, Option, Some, None, Result}
+use Rattle.std.specs.Prelude.{◌≡◌, ℕ, suc, ◌+◌, ◌*◌, ◌<◌, ◌≤◌, ◌^◌, ℤ, Bool, true, List, [], ◌∷◌, ◌++◌, map, flat_map, take, length, slice_get, sum, Some, None}
 use Rattle.std.specs.List.{enumerate_from}
 use Rattle.std.proofs.Common.{refl, sym, ap, subst, arith, ◌∙◌, append_assoc}
 use Rattle.std.proofs.lemmas.List.{append-nil, length-append}
@@ -23,7 +23,7 @@ use Rattle.aol_cinstance.specs.Statements.{port_loop, ArePorts}
 use Rattle.aol_cinstance.specs.Values.{points_before, both}
 use Rattle.aol_cinstance.proofs.Does.{Does, does_then, does_nothing}
 use Rattle.aol_cinstance.proofs.Lists.{get_below, get_within}
-use Rattle.aol_cinstance.proofs.Port.{Between, PortDone, port_done, result}
+use Rattle.aol_cinstance.proofs.Port.{Between, port_done, result}
 use Rattle.aol_cinstance.proofs.Settle.{IsTaken}
 use Rattle.aol_cinstance.proofs.Taken.{port_vals, vals_length, vals_get, element_taken}
 
@@ -80,10 +80,11 @@ module _ (tables : List (List ℤ)) (sizes : List (List ℕ)) (t : Tables) (xs :
   -- what an element of a port takes
   taken_at : (o : OutPort) (k start : ℕ) (done rest : List Val) → points_before sizes task k ≡ before + start → values ≡ done ++ (port_vals task e xs (k, o) ++ rest) → length done ≡ start → (i : ℕ) → i < size o.port.shape
       → (x : Val) × (slice_get values (start + i) ≡ Some x) × IsTaken sizes (4 * (before + start)) i x (result tables sizes t xs cs values s st e shapes whole ok o (width_at e.wide_out k) i)
-  taken_at o k start done rest here split front i below =
-      (instance_value task e xs k o (point_at o.port.shape i),
-        ap (λ vs. slice_get vs (start + i)) split ∙ (ap (λ m. slice_get (done ++ (port_vals task e xs (k, o) ++ rest)) (m + i)) (sym front) ∙ vals_get task e xs done k i o rest below),
-        element_taken sizes task k i (before + start) (4 * (before + start)) o below here refl e xs ok none ok_is)
+  taken_at o k start done rest here split front i below = (
+    instance_value task e xs k o (point_at o.port.shape i),
+    ap (λ vs. slice_get vs (start + i)) split ∙ (ap (λ m. slice_get (done ++ (port_vals task e xs (k, o) ++ rest)) (m + i)) (sym front) ∙ vals_get task e xs done k i o rest below),
+    element_taken sizes task k i (before + start) (4 * (before + start)) o below here refl e xs ok none ok_is,
+  )
 
   pub ports_do : (outs : List OutPort) (k start : ℕ) (body : List Stmt) (done : List Val) (u : State) → ArePorts t e before k start outs body
       → values ≡ done ++ flat_map (port_vals task e xs) (enumerate_from k outs) → length done ≡ start
@@ -98,14 +99,14 @@ module _ (tables : List (List ℤ)) (sizes : List (List ℕ)) (t : Tables) (xs :
       let port = port_done tables sizes t xs cs values s st e shapes whole ok o (width_at e.wide_out k) start first fitted are.3.0 are.4 (fitted_quiet t e o fitted shapes few are.5) (omega (arith, room_all)) above are.6 (taken_at o k start done rest here split front) there u b in
       let size_is = vals_length task e xs k o in
       let others = ports_do outs (k + 1) (start + n) are.1 (done ++ port_vals task e xs (k, o)) port.end are.7
-          (split ∙ sym (append_assoc done (port_vals task e xs (k, o)) rest))
-          (length-append done (port_vals task e xs (k, o)) ∙ (let f = front in omega (arith, f, size_is)))
-          (λ j.
-          let e0 : k + 1 + j ≡ k + suc j = omega arith in
-          let m = marks (suc j) in
-          let c = sum_by-cons (λ (q : ℕ). q) n (take j (out_sizes outs)) in
-          ap (points_before sizes task) e0 ∙ omega (arith, m, c))
-          (omega (arith, room_all)) port.known in
+      (split ∙ sym (append_assoc done (port_vals task e xs (k, o)) rest))
+      (length-append done (port_vals task e xs (k, o)) ∙ (let f = front in omega (arith, f, size_is)))
+      (λ j.
+      let e0 : k + 1 + j ≡ k + suc j = omega arith in
+      let m = marks (suc j) in
+      let c = sum_by-cons (λ (q : ℕ). q) n (take j (out_sizes outs)) in
+      ap (points_before sizes task) e0 ∙ omega (arith, m, c))
+      (omega (arith, room_all)) port.known in
       let total : n + out_points outs ≡ out_points (o ∷ outs) = sym (sum_by-cons (λ (p : OutPort). size p.port.shape) o outs) in
       subst (λ m. Ported start m body u) total
       (and_ports start n (out_points outs) (port_loop o.port.shape t.cells start first fitted) are.1 body u port.end port.cells are.2 port.does port.along others)

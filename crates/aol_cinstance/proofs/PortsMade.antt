@@ -1,6 +1,6 @@
 -- One output port before others.
-use Rattle.std.specs.Prelude.{◌≡◌, ℕ, ◌+◌, ◌*◌, ◌≤◌, ◌^◌, ℤ, pos, List, [], ◌∷◌, ◌++◌, length}
-use Rattle.std.proofs.Common.{refl, sym, ap, subst, arith, ◌∙◌}
+use Rattle.std.specs.Prelude.{◌≡◌, ℕ, ◌+◌, ◌*◌, ◌≤◌, ◌^◌, ℤ, pos, List, ◌∷◌, length}
+use Rattle.std.proofs.Common.{sym, ap, subst, arith, ◌∙◌}
 use Rattle.aol_shape.specs.Shape.{size, IsShape}
 use Rattle.aol_expr_tree.specs.declared.value.Width.{Width}
 use Rattle.aol_expr_tree.specs.Tree.{IsExpr}
@@ -22,6 +22,13 @@ ports_more t e before k start place next after outs others o w first st fitted r
     let goes : after ≡ before + next = omega (arith, after_is, next_is, place_is) in
     let here : st ≡ port_loop o.port.shape t.cells start (4 * (before + start)) fitted = loop (4 * (before + start)) (first_is ∙ ap (λ n. pos (4 * n)) place_is) in
     let whole : body ≡ port_loop o.port.shape t.cells start (4 * (before + start)) fitted ∷ rest = made ∙ ap (λ s. s ∷ rest) here in
-    subst (λ os. ArePorts t e before k start os body) (sym split)
-    (fitted, rest, whole, (is_shape, omega (arith, low)), subst (λ v. LeaveFitted t.reads e.ins (length o.port.shape) VALUE v o.expr fitted) width leave, formed, omega (arith, few, place_is),
-      subst (λ n. ArePorts t e before (k + 1) n others rest) next_is (are before goes))
+    subst (λ os. ArePorts t e before k start os body) (sym split) (
+      fitted,
+      rest,
+      whole,
+      (is_shape, omega (arith, low)),
+      subst (λ v. LeaveFitted t.reads e.ins (length o.port.shape) VALUE v o.expr fitted) width leave,
+      formed,
+      omega (arith, few, place_is),
+      subst (λ n. ArePorts t e before (k + 1) n others rest) next_is (are before goes),
+    )

@@ -1,5 +1,5 @@
 -- An instance whose first so many cells are put.
-use Rattle.std.specs.Prelude.{◌≡◌, ℕ, zero, suc, ◌+◌, ◌*◌, ◌<◌, ◌≤◌, ◌^◌, ◌⊎◌, ℤ, pos, negsuc, Bool, true, false, List, [], ◌∷◌, map, take, length, slice_get, slice_set, Option, Some, None, option_and_then, nat_lt}
+use Rattle.std.specs.Prelude.{◌≡◌, ℕ, zero, suc, ◌+◌, ◌<◌, ◌^◌, ℤ, pos, negsuc, true, List, [], ◌∷◌, map, take, length, slice_get, slice_set, Some, option_and_then}
 use Rattle.std.proofs.Common.{refl, sym, ap, subst, arith, ◌∙◌}
 use Rattle.std.proofs.lemmas.Bool.{lt-ltb}
 use Rattle.std.proofs.lemmas.List.{length-set}
@@ -7,9 +7,8 @@ use Rattle.aol_shape.specs.Numbers.{fits_64}
 use Rattle.aol_expr_tree.specs.declared.value.Val.{Val}
 use Rattle.aol_expr_tree.specs.Meaning.{nth_number}
 use Rattle.aol_flat.specs.InstanceValue.{number_of}
-use Rattle.aol_csyn.specs.declared.program.COp.{COp}
 use Rattle.aol_csyn.specs.declared.program.COp.TheVariants.{Add as Plus}
-use Rattle.aol_csyn.specs.Tree.{Expr, num as number, var as variable, tab, bin as between}
+use Rattle.aol_csyn.specs.Tree.{num as number, var as variable, bin as between}
 use Rattle.aol_csyn.specs.Meaning.{State, value, table_entry, checked, with_v, with_f}
 use Rattle.aol_lower.specs.Effect.{Keeps, IsAt, IsRead, AreRead}
 use Rattle.aol_lower.specs.Ports.{IsMarkAt, IsMarked, AreMarked}
@@ -19,7 +18,7 @@ use Rattle.aol_cinstance.specs.declared.layout.TheConstants.{INSTANCE, CELLS, RA
 use Rattle.aol_cinstance.specs.Effect.{IsHeldAt, IsHeld, Stands}
 use Rattle.aol_cinstance.specs.Statements.{cell_of}
 use Rattle.aol_cinstance.specs.Values.{mark_of, set_all}
-use Rattle.aol_cinstance.proofs.Lists.{other_kept, take_get, get_below, get_within, map_get, map_length, nth_get, set_length, set_other, set_more}
+use Rattle.aol_cinstance.proofs.Lists.{take_get, get_below, get_within, map_get, map_length, nth_get, set_length, set_other, set_more}
 
 pub small_fits : (n : ℕ) → n < 2 ^ 63 → fits_64 (pos n) ≡ true
 small_fits n h = lt-ltb n (2 ^ 63) h

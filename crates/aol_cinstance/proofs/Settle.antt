@@ -1,8 +1,7 @@
 -- A cell takes a value.
-use Rattle.std.specs.Prelude.{◌≡◌, ℕ, zero, suc, ◌+◌, ◌*◌, ◌<◌, ◌≤◌, ◌^◌, ℤ, pos, negsuc, ◌-ℤ◌, true, false, List, [], ◌∷◌, ◌++◌, take, length, slice_get, slice_set, Option, Some, Result, Ok, Err}
-use Rattle.std.proofs.Common.{refl, sym, ap, subst, arith, ◌∙◌}
+use Rattle.std.specs.Prelude.{◌≡◌, ℕ, suc, ◌+◌, ◌*◌, ◌<◌, ◌≤◌, ◌^◌, ℤ, pos, ◌-ℤ◌, false, List, [], ◌∷◌, length, slice_get, slice_set, Some, Result, Ok, Err}
+use Rattle.std.proofs.Common.{refl, ap, subst, arith, ◌∙◌}
 use Rattle.std.proofs.lemmas.Int.{ints}
-use Rattle.aol_shape.specs.Numbers.{fits_64}
 use Rattle.aol_expr_tree.specs.declared.value.Kind.{Kind}
 use Rattle.aol_expr_tree.specs.declared.value.Kind.TheVariants.{Overflow, Divide, Index, Range}
 use Rattle.aol_expr_tree.specs.declared.value.Val.{Val}

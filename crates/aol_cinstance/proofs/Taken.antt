@@ -1,5 +1,5 @@
 -- What cells take for the values of an instance.
-use Rattle.std.specs.Prelude.{◌≡◌, ℕ, zero, suc, ◌+◌, ◌*◌, ◌<◌, ◌≤◌, ◌⊎◌, ℤ, pos, negsuc, ◌==◌, Bool, true, false, ◌&&◌, List, [], ◌∷◌, ◌++◌, map, flat_map, take, drop, length, slice_get, sum, sum_by, Option, Some, None, Result, Ok, Err, if◌then◌else◌}
+use Rattle.std.specs.Prelude.{◌≡◌, ℕ, zero, suc, ◌+◌, ◌*◌, ◌<◌, ◌≤◌, ◌⊎◌, ℤ, pos, Bool, true, false, ◌&&◌, List, [], ◌∷◌, ◌++◌, map, flat_map, take, drop, length, slice_get, sum, Option, Some, None, Result, Ok, Err, if◌then◌else◌}
 use Rattle.std.specs.List.{enumerate_from, list_all}
 use Rattle.std.proofs.Common.{refl, sym, ap, subst, arith, ◌∙◌, inl, inr}
 use Rattle.std.proofs.lemmas.List.{length-append}
@@ -19,10 +19,10 @@ use Rattle.aol_expr_tree.specs.Meaning.{◌>>=◌, Given, holds, value}
 use Rattle.aol_model_types.specs.declared.task.Elementary.{Elementary}
 use Rattle.aol_model_types.specs.declared.task.OutPort.{OutPort}
 use Rattle.aol_csyn.specs.Meaning.{is_zero}
-use Rattle.aol_flat.specs.InstanceValue.{first_fault, number_of, all_hold, width_at, fault_at, in_width, computed, fault_or, instance_value, instance_outputs}
+use Rattle.aol_flat.specs.InstanceValue.{first_fault, number_of, all_hold, width_at, fault_at, in_width, computed, fault_or, instance_value}
 use Rattle.aol_lower.specs.Effect.{kind_number}
 use Rattle.aol_lower.specs.Ports.{all_hold as held_in, fitted, first_mark}
-use Rattle.aol_cinstance.specs.Effect.{out_sizes, out_points}
+use Rattle.aol_cinstance.specs.Effect.{out_points}
 use Rattle.aol_cinstance.specs.Values.{points_before, mark, mark_of}
 use Rattle.aol_cinstance.proofs.Lists.{map_get, map_length, get_before, get_behind}
 use Rattle.aol_cinstance.proofs.Settle.{IsTaken}

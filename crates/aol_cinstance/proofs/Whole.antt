@@ -1,5 +1,5 @@
 -- What the statements of an elementary instance do.
-use Rattle.std.specs.Prelude.{◌≡◌, ℕ, zero, suc, ◌+◌, ◌*◌, ◌<◌, ◌≤◌, ◌^◌, ℤ, pos, negsuc, ◌-ℤ◌, Bool, true, false, List, [], ◌∷◌, ◌++◌, map, flat_map, take, length, slice_get, sum, Option, Some, None, if◌then◌else◌}
+use Rattle.std.specs.Prelude.{◌≡◌, ℕ, suc, ◌+◌, ◌<◌, ◌≤◌, ◌^◌, ℤ, pos, ◌-ℤ◌, Bool, List, [], ◌∷◌, ◌++◌, map, take, length, slice_get, Option, Some, None, if◌then◌else◌}
 use Rattle.std.specs.List.{enumerate_from}
 use Rattle.std.proofs.Common.{refl, sym, ap, subst, arith, ◌∙◌}
 use Rattle.std.proofs.lemmas.Int.{ints}
@@ -7,31 +7,30 @@ use Rattle.aol_expr_tree.specs.declared.value.Kind.TheVariants.{Range}
 use Rattle.aol_expr_tree.specs.declared.value.Site.{Site}
 use Rattle.aol_expr_tree.specs.declared.value.Val.{Val}
 use Rattle.aol_expr_tree.specs.declared.value.Val.TheVariants.{Bad}
-use Rattle.aol_expr_tree.specs.Meaning.{nth_number}
 use Rattle.aol_model_types.specs.declared.task.Elementary.{Elementary}
 use Rattle.aol_model_types.specs.declared.task.OutPort.{OutPort}
 use Rattle.aol_flat.specs.InstanceValue.{first_fault, number_of, instance_outputs}
 use Rattle.aol_csyn.specs.declared.program.COp.TheVariants.{Eq as Equal}
-use Rattle.aol_csyn.specs.Tree.{Expr, Stmt, stmts, num as number, var as variable, bin as between, set_var}
+use Rattle.aol_csyn.specs.Tree.{Expr, Stmt, var as variable, bin as between, set_var}
 use Rattle.aol_csyn.specs.Meaning.{State, value, truth, is_zero}
 use Rattle.aol_csyn.specs.Puts.{Cell, of_v, of_f}
-use Rattle.aol_lower.specs.Effect.{Keeps, AreShapes, patterns_size, kind_number}
+use Rattle.aol_lower.specs.Effect.{patterns_size, kind_number}
 use Rattle.aol_lower.specs.Lowered.{nought, either}
-use Rattle.aol_lower.specs.Ports.{all_hold as held_in, first_mark, LeavesMark}
+use Rattle.aol_lower.specs.Ports.{all_hold as held_in}
 use Rattle.aol_lower.proofs.Steps.{put, put_there, put_other, between_is}
 use Rattle.aol_cinstance.specs.declared.layout.Tables.{Tables}
-use Rattle.aol_cinstance.specs.declared.layout.TheConstants.{CELLS, RANK, HELD, VALUE}
+use Rattle.aol_cinstance.specs.declared.layout.TheConstants.{RANK, HELD, VALUE}
 use Rattle.aol_cinstance.specs.Effect.{Stands, Writes, Computes, out_sizes, out_points, rooms, variables}
 use Rattle.aol_cinstance.specs.Made.{IsMade}
 use Rattle.aol_cinstance.specs.Statements.{cell_of, put_both, pass_on, compute, computing}
 use Rattle.aol_cinstance.specs.Values.{points_before, mark, mark_of, set_all, both}
 use Rattle.aol_cinstance.proofs.Does.{Does, Turn, does_then, does_set, does_first, does_second, does_quietly, does_loop}
-use Rattle.aol_cinstance.proofs.Lists.{take_whole, map_length, get_below, get_within, both_more}
+use Rattle.aol_cinstance.proofs.Lists.{take_whole, map_length, get_below, both_more}
 use Rattle.aol_cinstance.proofs.Port.{Between}
-use Rattle.aol_cinstance.proofs.PortList.{Ported, ports_do}
+use Rattle.aol_cinstance.proofs.PortList.{ports_do}
 use Rattle.aol_cinstance.proofs.Progress.{Progress, progress_start, progress_put, progress_keeps, progress_more, v_inside, f_inside, cell_is, marks_read, numbers_read, nth_fits, map_fits}
 use Rattle.aol_cinstance.proofs.Settle.{put_cell, puts_both}
-use Rattle.aol_cinstance.proofs.Taken.{fault_mark, first_is, mark_some, same_held, port_vals, all_length, all_bad, before_at}
+use Rattle.aol_cinstance.proofs.Taken.{fault_mark, first_is, mark_some, same_held, all_length, all_bad, before_at}
 
 rooms_some : (outs : List OutPort) → 2 ≤ rooms outs
 rooms_some [] = omega arith
@@ -176,7 +175,7 @@ module _ (t : Tables) (e : Elementary) (before : ℕ) (body : List Stmt) (m : Is
       let p3 = progress_put tables sizes t xs cs Outs s st 0 HELD mark u2 (λ e0. omega (arith, e0)) (λ e0. omega (arith, e0)) (λ e0. omega (arith, e0)) p2 in
       let b : Between tables sizes t xs cs Outs s st e m.shapes reads ok 0 u3 = record { progress = p3; held = put_there HELD mark u2 (omega (arith, size2, enough)) } in
       let ports = ports_do tables sizes t xs cs Outs s st e m.shapes reads ok task before few none (same_held e.ins e.wide_in nums) as_many (omega (arith, enough)) e.outs 0 0 m.ports [] u3 m.are_ports refl refl
-          (λ j. let e0 : 0 + j ≡ j = omega arith in ap (points_before sizes task) e0 ∙ (let q = before_at sizes task j (out_sizes e.outs) own in omega (arith, q, first))) room b in
+      (λ j. let e0 : 0 + j ≡ j = omega arith in ap (points_before sizes task) e0 ∙ (let q = before_at sizes task j (out_sizes e.outs) own in omega (arith, q, first))) room b in
       let n0 : 0 + out_points e.outs ≡ length cs = omega (arith, cells) in
       let inner : Does tables (compute m.widths m.ports) u ports.end ports.cells
       = does_then tables (set_var 0 nought ∷ []) (m.widths ++ (set_var HELD (variable 0) ∷ m.ports)) u u1 ports.end [] ports.cells d1

@@ -3,10 +3,9 @@
 -- An instance reads its values from one place of the table of entries on, and writes its cells from one place of the table of cells on. Variables hold both
 -- places. From each state in which what it reads is held, its statements are not stuck. They put, in order, V and then F of each of its cells and nothing
 -- else, and leave there what the instance gives for what it read.
-use Rattle.std.specs.Prelude.{◌≡◌, ℕ, ◌+◌, ◌*◌, ◌<◌, ◌≤◌, ◌^◌, max, ℤ, pos, negsuc, true, false, List, [], ◌∷◌, map, length, slice_get, sum_by, Some}
+use Rattle.std.specs.Prelude.{◌≡◌, ℕ, ◌+◌, ◌<◌, ◌≤◌, ◌^◌, max, ℤ, pos, negsuc, true, false, List, [], ◌∷◌, map, length, slice_get, sum_by, Some}
 use Rattle.aol_shape.specs.Numbers.{fits_64}
 use Rattle.aol_shape.specs.Shape.{size}
-use Rattle.aol_expr_tree.specs.declared.port.Port.{Port}
 use Rattle.aol_expr_tree.specs.declared.value.Val.{Val}
 use Rattle.aol_model_types.specs.declared.task.Elementary.{Elementary}
 use Rattle.aol_model_types.specs.declared.task.OutPort.{OutPort}

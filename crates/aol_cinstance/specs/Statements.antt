@@ -1,5 +1,5 @@
 -- The statements of one instance.
-use Rattle.std.specs.Prelude.{◌≡◌, ℕ, ◌+◌, ◌*◌, ◌≤◌, ◌^◌, ℤ, pos, negsuc, List, [], ◌∷◌, ◌++◌, length}
+use Rattle.std.specs.Prelude.{◌≡◌, ℕ, ◌+◌, ◌*◌, ◌≤◌, ◌^◌, pos, negsuc, List, [], ◌∷◌, ◌++◌, length}
 use Rattle.aol_shape.specs.Shape.{size, IsShape}
 use Rattle.aol_expr_tree.specs.Tree.{depth}
 use Rattle.aol_model_types.specs.declared.task.Elementary.{Elementary}

@@ -1,5 +1,5 @@
 -- How a cell holds a value: a number stands in V beside 0 in F, and a fault has 0 in V and its mark in F.
-use Rattle.std.specs.Prelude.{◌≡◌, ℕ, zero, suc, ◌+◌, ◌*◌, ℤ, pos, List, [], ◌∷◌, take, sum, slice_set}
+use Rattle.std.specs.Prelude.{ℕ, zero, suc, ◌+◌, ◌*◌, ℤ, pos, List, [], ◌∷◌, take, sum, slice_set}
 use Rattle.aol_expr_tree.specs.declared.value.Site.{Site}
 use Rattle.aol_expr_tree.specs.declared.value.Val.{Val}
 use Rattle.aol_expr_tree.specs.declared.value.Val.TheVariants.{Num, Bad}

@@ -31,12 +31,7 @@ fn own_cell(alloc: Global, cells: u32) -> Result<CExpr, NoMemory>
 }
 
 /// The copy's cell takes a number in V and one in F.
-fn put_own(
-    alloc: Global,
-    cells: u32,
-    v: CExpr,
-    f: CExpr,
-) -> Result<Items<CStmt>, NoMemory>
+fn put_own(alloc: Global, cells: u32, v: CExpr, f: CExpr) -> Result<Items<CStmt>, NoMemory>
     ensures { IfOk result (λ body. trees_of body ≡ put_both (own_cell cells) (expr_of v) (expr_of f)) }
 {
     let v_at = own_cell(alloc, cells)?;

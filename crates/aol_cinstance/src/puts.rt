@@ -62,12 +62,7 @@ fn mark_here(alloc: Global, first: i64) -> Result<CExpr, NoMemory>
 }
 
 /// The cell of the output element at the rank takes the value, or the fault.
-pub fn settle(
-    alloc: Global,
-    cells: u32,
-    start: u32,
-    first: i64,
-) -> Result<Items<CStmt>, NoMemory>
+pub fn settle(alloc: Global, cells: u32, start: u32, first: i64) -> Result<Items<CStmt>, NoMemory>
     ensures { (n : _) → first ≡ pos n → IfOk result (λ body. trees_of body ≡ settle cells start n) }
 {
     let number = put_here(alloc, cells, start, CExpr::Var(VALUE), CExpr::Num(0))?;

@@ -1,6 +1,5 @@
 use Rattle.std.proofs.Common.{sym, subst}
 use Rattle.std.specs.Prelude.{◌+◌}
-use Rattle.aol_lower.specs.Stored.{trees_of}
 use Rattle.aol_lower.proofs.Made.{if_ok_map}
 use Rattle.aol_cinstance.specs.declared.layout.TheConstants.{VALUE}
 use Rattle.aol_cinstance.specs.Effect.{AreBodies, Gives}

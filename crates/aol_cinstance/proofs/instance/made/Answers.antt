@@ -1,7 +1,6 @@
-use Rattle.std.proofs.Common.{◌≡◌, ◌+◌, ◌<◌, ◌^◌, refl, arith}
+use Rattle.std.proofs.Common.{◌≡◌, ◌+◌, ◌<◌, ◌^◌, arith}
 use Rattle.aol_lower.specs.Stored.{trees_of}
 use Rattle.aol_lower.proofs.Made.{if_ok_map}
-use Rattle.aol_cinstance.specs.Statements.{ArePorts}
 use Rattle.aol_cinstance.proofs.MadeOf.{made_of}
 use Rattle.aol_cinstance.proofs.instance.made.Goals as goal
 

@@ -1,21 +1,20 @@
 -- What a group of instances does.
-use Rattle.std.specs.Prelude.{◌≡◌, ℕ, zero, suc, ◌+◌, ◌*◌, ◌<◌, ◌≤◌, ◌^◌, ◌⊎◌, ℤ, pos, negsuc, List, [], ◌∷◌, ◌++◌, map, flat_map, take, length, slice_get, slice_set, Option, Some, option_and_then}
-use Rattle.std.proofs.Common.{refl, sym, ap, subst, arith, ◌∙◌, append_assoc, inl, inr}
+use Rattle.std.specs.Prelude.{◌≡◌, ℕ, zero, suc, ◌+◌, ◌*◌, ◌<◌, ◌≤◌, ◌^◌, ◌⊎◌, ℤ, pos, negsuc, List, [], ◌∷◌, ◌++◌, map, flat_map, take, length, slice_get, slice_set, Some}
+use Rattle.std.proofs.Common.{refl, sym, ap, arith, ◌∙◌, append_assoc, inl, inr}
 use Rattle.std.proofs.Math.Nat.{mul-le-mul_right}
 use Rattle.std.proofs.lemmas.List.{append-nil, length-append, length-set}
-use Rattle.aol_shape.specs.Numbers.{fits_64}
 use Rattle.aol_expr_tree.specs.declared.value.Val.{Val}
 use Rattle.aol_flat.specs.InstanceValue.{number_of}
 use Rattle.aol_csyn.specs.declared.program.COp.TheVariants.{Add as Plus, Mul as Times}
-use Rattle.aol_csyn.specs.Tree.{Expr, num as number, var as variable, bin as between, Stmt, set_var, for_each, stmts}
-use Rattle.aol_csyn.specs.Meaning.{State, value, table_entry, checked}
-use Rattle.aol_csyn.specs.Puts.{Cell, of_v, of_f}
+use Rattle.aol_csyn.specs.Tree.{num as number, var as variable, bin as between, Stmt, set_var}
+use Rattle.aol_csyn.specs.Meaning.{State, value, table_entry}
+use Rattle.aol_csyn.specs.Puts.{of_v, of_f}
 use Rattle.aol_lower.proofs.Steps.{put, put_there, put_other, between_is}
 use Rattle.aol_cinstance.specs.declared.layout.Tables.{Tables}
 use Rattle.aol_cinstance.specs.declared.layout.TheConstants.{INSTANCE, READS, CELLS, VALUE}
-use Rattle.aol_cinstance.specs.Effect.{IsHeldAt, IsHeld, Stands, Writes, Gives}
+use Rattle.aol_cinstance.specs.Effect.{IsHeldAt, IsHeld, Stands, Gives}
 use Rattle.aol_cinstance.specs.Values.{mark_of, set_all, both}
-use Rattle.aol_cinstance.proofs.Does.{Does, Turn, Loop, does_then, does_set, does_loop}
+use Rattle.aol_cinstance.proofs.Does.{Turn, does_then, does_set, does_loop}
 use Rattle.aol_cinstance.proofs.Lists.{get_within, get_below, map_length, set_length, set_other, take_get, take_whole}
 use Rattle.aol_cinstance.proofs.Progress.{small_checked}
 use Rattle.aol_cstep.specs.declared.group.Group.{Group}
@@ -115,9 +114,10 @@ module _ (tables : List (List ℤ)) (sizes : List (List ℕ)) (t : Tables) (g : 
 
     leads_still : (k : ℕ) (x : Val) (e : ℤ) → k < length visit.taken → table_entry tables t.reads.entries (pos (g.from + i * g.reads + k)) ≡ Some e → IsHeldAt tables sizes t.reads.numbers s.v s.f e x
         → IsHeldAt tables sizes t.reads.numbers u.v u.f e x
-    leads_still k x (pos c) below there h =
-        (ap (λ ys. slice_get ys c) d.v ∙ (set_other s.v (Cs i) (map number_of (Given i)) c (other k c below there) ∙ h.0),
-          ap (λ ys. slice_get ys c) d.f ∙ (set_other s.f (Cs i) (map (mark_of sizes) (Given i)) c (other k c below there) ∙ h.1))
+    leads_still k x (pos c) below there h = (
+      ap (λ ys. slice_get ys c) d.v ∙ (set_other s.v (Cs i) (map number_of (Given i)) c (other k c below there) ∙ h.0),
+      ap (λ ys. slice_get ys c) d.f ∙ (set_other s.f (Cs i) (map (mark_of sizes) (Given i)) c (other k c below there) ∙ h.1),
+    )
     leads_still k x (negsuc n) below there h = h
 
     held_still : (k : ℕ) (x : Val) → slice_get visit.taken k ≡ Some x → IsHeld tables sizes t.reads u.v u.f (g.from + i * g.reads + k) x

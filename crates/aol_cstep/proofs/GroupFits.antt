@@ -1,12 +1,11 @@
 -- The loop over a group of instances is well formed.
-use Rattle.std.specs.Prelude.{◌≡◌, ℕ, ◌+◌, ◌*◌, ◌<◌, ◌≤◌, ◌^◌, ℤ, pos, true, false, List, [], ◌∷◌, ◌++◌}
+use Rattle.std.specs.Prelude.{◌≡◌, ℕ, ◌<◌, ◌≤◌, ◌^◌, pos, true, false, List, [], ◌∷◌}
 use Rattle.std.proofs.Common.{refl, sym, subst, arith}
 use Rattle.aol_csyn.specs.declared.program.COp.TheVariants.{Add as Plus, Mul as Times}
-use Rattle.aol_csyn.specs.Tree.{Expr, num as number, var as variable, bin as between, Stmt, set_var, stmts}
+use Rattle.aol_csyn.specs.Tree.{num as number, var as variable, bin as between, Stmt, set_var, stmts}
 use Rattle.aol_csyn.specs.Form.{any_sets, expr_formed}
 use Rattle.aol_cinstance.specs.declared.layout.TheConstants.{INSTANCE, READS, CELLS, VALUE}
-use Rattle.aol_cinstance.specs.Effect.{IsBody}
-use Rattle.aol_cinstance.proofs.Fits.{var_fits, number_fits, between_fits, Fit, append_fits, deeper, set_fits, for_fits, fewer}
+use Rattle.aol_cinstance.proofs.Fits.{var_fits, number_fits, between_fits, Fit, append_fits, set_fits, for_fits, fewer}
 use Rattle.aol_cstep.specs.declared.group.Group.{Group}
 use Rattle.aol_cstep.specs.Effect.{GroupIsFormed}
 use Rattle.aol_cstep.specs.Statements.{place, turn, group_loop}

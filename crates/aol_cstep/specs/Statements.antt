@@ -1,5 +1,5 @@
 -- The statements of a group of instances.
-use Rattle.std.specs.Prelude.{ℕ, ℤ, pos, List, ◌∷◌}
+use Rattle.std.specs.Prelude.{ℕ, pos, List, ◌∷◌}
 use Rattle.aol_csyn.specs.declared.program.COp.TheVariants.{Add as Plus, Mul as Times}
 use Rattle.aol_csyn.specs.Tree.{Expr, num as number, var as variable, bin as between, Stmt, set_var, for_each, stmts}
 use Rattle.aol_cinstance.specs.declared.layout.TheConstants.{INSTANCE, READS, CELLS}

@@ -53,11 +53,7 @@ fn group_loop(alloc: Global, group: Group, instance: Items<CStmt>) -> Result<CSt
 /// The loop over a group of instances, each of which does these statements.
 ///
 /// It sets the places of each instance's entries and cells, and then does them.
-pub fn lower_group(
-    alloc: Global,
-    group: Group,
-    instance: Items<CStmt>,
-) -> Result<CStmt, NoMemory>
+pub fn lower_group(alloc: Global, group: Group, instance: Items<CStmt>) -> Result<CStmt, NoMemory>
     ensures value { IfOk result (λ st. GroupFills group (trees_of instance) (stmt_of st)) }
     ensures formed { IfOk result (λ st. GroupIsFormed (trees_of instance) (stmt_of st)) }
 {

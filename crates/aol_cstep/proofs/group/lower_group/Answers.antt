@@ -1,5 +1,4 @@
 use Rattle.std.proofs.Common.{sym, subst, arith}
-use Rattle.aol_csyn.specs.Stored.{stmt_of}
 use Rattle.aol_lower.specs.Stored.{trees_of}
 use Rattle.aol_lower.proofs.Made.{if_ok_map}
 use Rattle.aol_cstep.specs.Effect.{GroupFills, GroupIsFormed}

@@ -1,5 +1,5 @@
 -- A step that fills the cells of its instances is right.
-use Rattle.std.specs.Prelude.{◌≡◌, ℕ, zero, suc, ◌+◌, ◌<◌, ◌⊎◌, ◌↔◌, ℤ, pos, List, [], ◌∷◌, ◌++◌, map, flat_map, length, slice_get, slice_set, Option, Some, None, option_map}
+use Rattle.std.specs.Prelude.{◌≡◌, ℕ, zero, suc, ◌<◌, ◌↔◌, ℤ, List, [], ◌∷◌, ◌++◌, map, flat_map, length, slice_get, slice_set, Some, option_map}
 use Rattle.std.proofs.Common.{refl, sym, ap, subst, arith, ◌∙◌, inl, inr}
 use Rattle.std.proofs.lemmas.List.{length-set}
 use Rattle.aol_expr_tree.specs.declared.value.Val.{Val}
@@ -7,13 +7,13 @@ use Rattle.aol_expr_tree.specs.declared.value.Val.TheVariants.{Num, Bad}
 use Rattle.aol_model_types.specs.declared.document.Model.{Model}
 use Rattle.aol_flat.specs.InstanceValue.{number_of}
 use Rattle.aol_flat.specs.Net.{Net, Memory, reads_at, writes_at, read_value, IsSettled}
-use Rattle.aol_csyn.specs.Tree.{Stmt, stmts, Stmts, Step, Program}
-use Rattle.aol_csyn.specs.Meaning.{State, Arrays, arrays_of, run_all, step_start, step_run, step_of_worker}
-use Rattle.aol_csyn.specs.Puts.{Cell, of_v, of_f, all_puts, step_puts, IsOne}
+use Rattle.aol_csyn.specs.Tree.{Stmt, stmts, Step, Program}
+use Rattle.aol_csyn.specs.Meaning.{Arrays, arrays_of, run_all, step_start, step_run, step_of_worker}
+use Rattle.aol_csyn.specs.Puts.{of_v, of_f, all_puts, step_puts, IsOne}
 use Rattle.aol_cinstance.specs.Values.{mark_of, set_all, both}
-use Rattle.aol_cinstance.proofs.Lists.{map_length, map_get, get_within, set_length, set_other, other_kept}
+use Rattle.aol_cinstance.proofs.Lists.{map_length, map_get, set_length, set_other}
 use Rattle.aol_cstep.specs.Effect.{Fills}
-use Rattle.aol_cstep.proofs.Filling.{IsIn, flat_get}
+use Rattle.aol_cstep.proofs.Filling.{flat_get}
 use Rattle.aol_cgen_laws.specs.Emitted.{output_sizes, Holds, IsOfStep, StepIsRight}
 use Rattle.aol_cgen_laws.specs.Filled.{all_writes, gives_in, all_given, AreOfStep, GiveForEach, AreInside, FilledIsRight}
 
@@ -182,8 +182,10 @@ module _ (m : Model) (net : Net) (levels workers : List ℕ) (p : Program) (leve
     v_length = ap length fills.v ∙ set_length a.0 Cs (map number_of Zs);
     f_length = ap length fills.f ∙ set_length a.1 Cs (map (mark_of (output_sizes m.tasks)) Zs);
     own = own_holds;
-    others = λ c h. (ap (λ ys. slice_get ys c) fills.v ∙ set_other a.0 Cs (map number_of Zs) c (no_other c h),
-      ap (λ ys. slice_get ys c) fills.f ∙ set_other a.1 Cs (map (mark_of (output_sizes m.tasks)) Zs) c (no_other c h));
+    others = λ c h. (
+      ap (λ ys. slice_get ys c) fills.v ∙ set_other a.0 Cs (map number_of Zs) c (no_other c h),
+      ap (λ ys. slice_get ys c) fills.f ∙ set_other a.1 Cs (map (mark_of (output_sizes m.tasks)) Zs) c (no_other c h),
+    );
   }
 
 pub filled_is_right : FilledIsRight

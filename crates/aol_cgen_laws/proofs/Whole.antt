@@ -1,5 +1,5 @@
 -- Right steps make a right program, whatever the order of the workers in each level.
-use Rattle.std.specs.Prelude.{◌≡◌, ℕ, zero, suc, ◌+◌, ◌<◌, List, [], ◌∷◌, length, get_or, slice_get, Option, Some, None, option_and_then, ◌⊎◌}
+use Rattle.std.specs.Prelude.{◌≡◌, ℕ, zero, suc, ◌+◌, ◌<◌, List, [], ◌∷◌, length, get_or, slice_get, Some, option_and_then, ◌⊎◌}
 use Rattle.std.specs.List.{IsAmong}
 use Rattle.std.proofs.Common.{refl, sym, ap, subst, arith, ◌∙◌, inl, inr}
 use Rattle.aol_expr_tree.specs.declared.value.Val.{Val}
@@ -7,7 +7,7 @@ use Rattle.aol_expr_tree.specs.declared.value.Val.TheVariants.{Num, Bad}
 use Rattle.aol_model_types.specs.declared.document.Model.{Model}
 use Rattle.aol_flat.specs.Net.{Net, Memory, IsSettled, IsWritten}
 use Rattle.aol_csyn.specs.Tree.{Program}
-use Rattle.aol_csyn.specs.Meaning.{Arrays, step_run, worker_run, level_run, levels_run, IsWorkerOrder}
+use Rattle.aol_csyn.specs.Meaning.{Arrays, step_run, level_run, levels_run, IsWorkerOrder}
 use Rattle.aol_cgen_laws.specs.Emitted.{AreInputs, Holds, SameAt, IsOfStep, IsBelow, IsReadyFor, StepIsRight, IsEmitted, AreShared, EmittedIsRight}
 
 some_injective : {X : Type 0} (a b : X) → Some a ≡ Some b → a ≡ b

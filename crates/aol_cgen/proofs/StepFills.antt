@@ -223,10 +223,10 @@ module _ (f : Laid) (net : Net) (cells inputs : ℕ) (levels workers : List ℕ)
       let cs = all_writes net now in
       let other : (j k c : ℕ) → slice_get levels j ≡ Some level → slice_get (reads_at net j) k ≡ Some (Cell c) → (n d : ℕ) → slice_get cs n ≡ Some d → d ≡ c → ⊥
       = λ j k c at read n d there e.
-        let q = flat_get (writes_at net) now n d there in
-        let w = within q.i q.x q.at in
-        let l = all_at (writes_at net) js w.0 q.x q.j d w.1 q.there in
-        read_apart j k c l.0 at read (l.1 ∙ ap (λ m. Some m) e) in
+      let q = flat_get (writes_at net) now n d there in
+      let w = within q.i q.x q.at in
+      let l = all_at (writes_at net) js w.0 q.x q.j d w.1 q.there in
+      read_apart j k c l.0 at read (l.1 ∙ ap (λ m. Some m) e) in
       record {
         v_length = ap length p.v ∙ (set_length s.v cs (map number_of (all_given net mem now)) ∙ h.v_length);
         f_length = ap length p.f ∙ (set_length s.f cs (map (mark_of Sizes) (all_given net mem now)) ∙ h.f_length);

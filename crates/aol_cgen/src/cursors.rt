@@ -22,10 +22,7 @@ pub struct Cursors<'a> {
 }
 
 /// Adds a cursor over reads.
-fn push_reads<'a>(
-    cursors: &mut Vec<LeafReads<'a>>,
-    cursor: LeafReads<'a>,
-) -> Result<(), NoMemory>
+fn push_reads<'a>(cursors: &mut Vec<LeafReads<'a>>, cursor: LeafReads<'a>) -> Result<(), NoMemory>
     ensures { OnOk result (cursors.new.items ≡ cursors.old.items ++ cursor.entry ∷ []) }
 {
     match cursors.push(cursor) {

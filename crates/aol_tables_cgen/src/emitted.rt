@@ -81,12 +81,7 @@ fn push_numbers(alloc: Global, line: &mut String, numbers: &[i64]) -> Result<(),
 }
 
 /// What both arrays hold after a run.
-fn ran(
-    alloc: Global,
-    program: &CProgram,
-    memory: &[i64],
-    order: Order,
-) -> Result<String, Fail> {
+fn ran(alloc: Global, program: &CProgram, memory: &[i64], order: Order) -> Result<String, Fail> {
     let Ok(arrays) = exec_c(alloc, program, memory, order) else {
         return Ok(String::from_str(alloc, "stuck")?);
     };
@@ -107,12 +102,7 @@ struct Case {
 }
 
 /// Whether a case ends as expected on so many workers, in an order.
-fn ends(
-    alloc: Global,
-    case: &Case,
-    workers: u32,
-    order: Order,
-) -> Result<String, Fail> {
+fn ends(alloc: Global, case: &Case, workers: u32, order: Order) -> Result<String, Fail> {
     let tree = tree_of(alloc, case.tasks, case.main)?;
     let Ok(Document { model, .. }) = document_of(alloc, &tree) else {
         return Err("document".into());

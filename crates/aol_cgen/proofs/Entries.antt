@@ -108,7 +108,7 @@ module _ (net : Net) (reads cells : ℕ) where
       let c = ap length (reads_keep_cells t (reads_at net j)) in
       omega (arith, a, b, c, many)
 
-  abbrev AllMany : List ℕ → Type 0
+  abbrev pub AllMany : List ℕ → Type 0
   AllMany js = (i j : ℕ) → slice_get js i ≡ Some j → (length (reads_at net j) ≡ reads) × (length (writes_at net j) ≡ cells)
 
   pub all_have : (t : Numbers) (js : List ℕ) → AllMany js → (i j k : ℕ) (r : Read) → slice_get js i ≡ Some j → slice_get (reads_at net j) k ≡ Some r → HasEntry (with_all net t js) (length t.entries + i * reads + k) r

@@ -55,10 +55,10 @@ impl<'a> Cursors<'a> {
         let mut most_written = 0;
         for leaf in 0..flat.leaves() {
             let read = flat.reads(alloc, leaf)?;
-            most_read = read.many().max(most_read);
+            most_read = most_read.max(read.many());
             push_reads(&mut reads, read)?;
             let write = flat.writes(alloc, leaf)?;
-            most_written = write.many().max(most_written);
+            most_written = most_written.max(write.many());
             push_writes(&mut writes, write)?;
         }
         let taken = vec![in alloc; Read::Const(0); most_read as usize]?;

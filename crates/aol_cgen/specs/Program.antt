@@ -1,4 +1,12 @@
 -- What the emitter answers.
+--
+-- The instances go level by level, then worker by worker, each in order of number. What each reads and writes is added to three tables, which only grow
+-- (`Gathered`). The instances of a level and a worker that are of one leaf are a group: one loop, whose statements read and write through these tables from
+-- the places at which the group began (`Groups`). The groups of a level and a worker, one after another, are its step. The tables at the end begin with those
+-- at each group, so each entry still stands where the group's loop looks for it.
+--
+-- A step is right because its groups fill the cells of its instances with what these give for a settled memory, from each state that is ready for the level:
+-- what they read are main inputs or cells of lower levels (`Flow`), and no instance of the level writes them.
 use Rattle.std.specs.Prelude.{◌≡◌, ℕ, ◌+◌, ◌*◌, ◌<◌, ◌⊎◌, List, length}
 use Rattle.aol_flat.specs.Tasks.{main_inputs}
 use Rattle.aol_flat.specs.Instance.{instances}

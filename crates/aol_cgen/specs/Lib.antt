@@ -1,0 +1,5 @@
+pub mod Gathered
+pub mod Groups
+pub mod Program
+pub mod Cursors
+pub mod Flow

@@ -1,0 +1,6 @@
+pub mod Joined
+pub mod Ports
+pub mod Made
+pub mod Whole
+pub mod Changed
+pub mod Fuse

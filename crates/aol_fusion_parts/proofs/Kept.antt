@@ -20,7 +20,7 @@ use Rattle.aol_fusion_parts.specs.Made.{fused_names}
 
 -- the new tasks
 abbrev made_tasks : Fusing → List Task
-made_tasks f = new_tasks f (fused_names f.model f.compound.name) (fused_ports f)
+made_tasks f = new_tasks f.args f.one f.two (fused_names f.model f.compound.name) (fused_ports f)
 
 none_of_four : (a b c d : Bool) → a ≡ false → b ≡ false → c ≡ false → d ≡ false → (a || (b || (c || (d || false)))) ≡ false
 none_of_four false false false false h i j k = refl

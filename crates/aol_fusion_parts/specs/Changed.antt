@@ -3,6 +3,7 @@ use Rattle.std.specs.Prelude.{ℕ, Bool, ◌&&◌, ◌||◌, not, List, [], ◌�
 use Rattle.std.specs.List.{list_all}
 use Rattle.aol_shape.specs.Lists.{same}
 use Rattle.aol_expr_tree.specs.declared.port.Port.{Port}
+use Rattle.aol_reshape.specs.declared.reshape.Reshape.{Reshape}
 use Rattle.aol_model_types.specs.declared.job.FuseArgs.{FuseArgs}
 use Rattle.aol_model_types.specs.declared.task.Compound.{Compound}
 use Rattle.aol_model_types.specs.declared.task.Copied.{Copied}
@@ -37,14 +38,21 @@ abbrev pub changed_to : FuseArgs → Repeated → List Port → Bool → Hook �
 changed_to args one unjoined goes h =
     if is_end_of args.first h then (if goes then [] else h ∷ []) ++ second_to args one h ∷ [] else moved_to args one unjoined h ∷ []
 
+-- a plain link, and a reshape, from this end to another
+abbrev pub plain_to : Hook → Hook → Plain
+plain_to from to = record { from = from; to = to }
+
+abbrev pub copied_to : Hook → Reshape → Hook → Copied
+copied_to from by to = record { from = from; to = to; by = by }
+
 -- the links in place of one: none where it joins the two parts
 abbrev pub changed_link : FuseArgs → Repeated → Repeated → List Port → Bool → Plain → List Plain
 changed_link args one two unjoined goes l =
-    if is_joint args l then [] else map (λ (h : Hook). record { from = changed_from args two l.from; to = h }) (changed_to args one unjoined goes l.to)
+    if is_joint args l then [] else map (plain_to (changed_from args two l.from)) (changed_to args one unjoined goes l.to)
 
 -- the reshapes in place of one
 abbrev pub changed_reshape : FuseArgs → Repeated → Repeated → List Port → Bool → Copied → List Copied
-changed_reshape args one two unjoined goes r = map (λ (h : Hook). record { from = changed_from args two r.from; to = h; by = r.by }) (changed_to args one unjoined goes r.to)
+changed_reshape args one two unjoined goes r = map (copied_to (changed_from args two r.from) r.by) (changed_to args one unjoined goes r.to)
 
 -- the parts in place of one: the fused repetition at the second, and none at the first where that goes
 abbrev pub changed_part : FuseArgs → List ℕ → Bool → Part → List Part

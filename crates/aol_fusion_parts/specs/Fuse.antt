@@ -13,9 +13,11 @@ use Rattle.aol_model_types.specs.Rules.{task_named, inputs_named, outputs_named}
 use Rattle.aol_flat.specs.Accept.{IsSound}
 use Rattle.aol_change.specs.declared.refused.StepRefused.TheVariants.{NotRepeated, NotJoined, HasLinks}
 use Rattle.aol_change.specs.Change.{Stepped, Changed, Refused, KeepsTasks, within_limits, bounded, changed_model, has_links}
+use Rattle.aol_fusion_parts.specs.declared.ports.FusedNames.{FusedNames}
+use Rattle.aol_fusion_parts.specs.declared.ports.FusedPorts.{FusedPorts}
 use Rattle.aol_fusion_parts.specs.Changed.{fused_compound}
 use Rattle.aol_fusion_parts.specs.Joined.{task_of_part, are_joined, is_well_formed}
-use Rattle.aol_fusion_parts.specs.Made.{FusedNames, fused_names, names_limit, block_of_first, block_limit, once_port, once_of_second, once_limit, pair_of_both, pair_limit}
+use Rattle.aol_fusion_parts.specs.Made.{fused_names, names_limit, block_of_first, block_limit, once_port, once_of_second, once_limit, pair_of_both, pair_limit}
 use Rattle.aol_fusion_parts.specs.Ports.{sources, tiled_ports, picked_ports, unpicked_ports, unjoined_ports}
 use Rattle.aol_fusion_parts.specs.Whole.{fused_repetition, whole_limit}
 
@@ -27,18 +29,11 @@ pub record Fusing : Type 0 where
   pub two : Repeated
   pub args : FuseArgs
 
--- ---- the ports that it needs
+-- the same by its parts
+abbrev pub fusing : Model → Compound → Repeated → Repeated → FuseArgs → Fusing
+fusing m c one two args = record { model = m; compound = c; one = one; two = two; args = args }
 
--- the ports by which its new tasks are made
-pub record FusedPorts : Type 0 where
-  pub first_ins : List Port
-  pub first_outs : List Port
-  pub used_outs : List Port
-  pub second_ins : List Port
-  pub picked_ins : List Port
-  pub free_ins : List Port
-  pub second_outs : List Port
-  pub unjoined : List Port
+-- ---- the ports that it needs
 
 -- the inputs and outputs of the first inner task, and the outputs that a pick is from; the inputs of the second inner task, those that are picked and those that aren't, and its outputs with a tiler; and the inputs of the second repetition that aren't joined
 abbrev pub fused_ports : Fusing → FusedPorts
@@ -59,17 +54,17 @@ fused_ports f =
 -- ---- the model
 
 -- the four new tasks: a block, one run, both side by side, and the repetition of that
-abbrev pub new_tasks : Fusing → FusedNames → FusedPorts → List Task
-new_tasks f n p =
-    tasks.Repeated (block_of_first n.block f.args.block f.one.task p.first_ins p.used_outs)
-    ∷ tasks.Repeated (once_of_second n.once f.two.task f.args.block p.first_outs f.args.picks p.second_ins p.second_outs)
-    ∷ tasks.Compound (pair_of_both n f.args.picks p.first_ins p.picked_ins p.free_ins p.second_outs)
-    ∷ tasks.Repeated (fused_repetition n.whole n.pair f.one f.two f.args.tiler p.unjoined p.first_ins p.free_ins p.second_outs)
+abbrev pub new_tasks : FuseArgs → Repeated → Repeated → FusedNames → FusedPorts → List Task
+new_tasks args one two n p =
+    tasks.Repeated (block_of_first n.block args.block one.task p.first_ins p.used_outs)
+    ∷ tasks.Repeated (once_of_second n.once two.task args.block p.first_outs args.picks p.second_ins p.second_outs)
+    ∷ tasks.Compound (pair_of_both n args.picks p.first_ins p.picked_ins p.free_ins p.second_outs)
+    ∷ tasks.Repeated (fused_repetition n.whole n.pair one two args.tiler p.unjoined p.first_ins p.free_ins p.second_outs)
     ∷ []
 
 -- the model with them and the changed compound
 abbrev pub fused_with : Fusing → FusedNames → FusedPorts → Model
-fused_with f n p = changed_model f.model f.compound.name (new_tasks f n p) (tasks.Compound (fused_compound f.args f.compound f.one f.two p.unjoined n.whole))
+fused_with f n p = changed_model f.model f.compound.name (new_tasks f.args f.one f.two n p) (tasks.Compound (fused_compound f.args f.compound f.one f.two p.unjoined n.whole))
 
 -- the fused model
 abbrev pub fused_model : Fusing → Model
@@ -78,15 +73,15 @@ fused_model f = fused_with f (fused_names f.model f.compound.name) (fused_ports 
 -- ---- limits and causes
 
 -- the first limit that the new tasks pass, in the order in which they are made
-abbrev pub tasks_limit : Fusing → FusedPorts → Option LimitName
-tasks_limit f p =
-    or_else (block_limit f.args.block p.first_ins p.used_outs)
-    (or_else (once_limit f.args.block p.first_outs f.args.picks p.second_ins p.second_outs)
-    (or_else (pair_limit p.first_ins p.free_ins p.second_outs) (whole_limit f.one f.two f.args.tiler p.unjoined p.first_ins)))
+abbrev pub tasks_limit : FuseArgs → Repeated → Repeated → FusedPorts → Option LimitName
+tasks_limit args one two p =
+    or_else (block_limit args.block p.first_ins p.used_outs)
+    (or_else (once_limit args.block p.first_outs args.picks p.second_ins p.second_outs)
+    (or_else (pair_limit p.first_ins p.free_ins p.second_outs) (whole_limit one two args.tiler p.unjoined p.first_ins)))
 
 -- the same after their names
 abbrev pub fuse_limit : Fusing → Option LimitName
-fuse_limit f = or_else (names_limit (fused_names f.model f.compound.name)) (tasks_limit f (fused_ports f))
+fuse_limit f = or_else (names_limit (fused_names f.model f.compound.name)) (tasks_limit f.args f.one f.two (fused_ports f))
 
 -- the proposal is well formed
 abbrev pub is_formed : Fusing → Bool
@@ -100,7 +95,7 @@ fused f =
 
 -- the fusion of the tasks of the two parts, or the first cause
 abbrev pub fused_parts : Model → Compound → FuseArgs → Option Task → Option Task → Stepped
-fused_parts m c args (Some (tasks.Repeated one)) (Some (tasks.Repeated two)) = fused (record { model = m; compound = c; one = one; two = two; args = args })
+fused_parts m c args (Some (tasks.Repeated one)) (Some (tasks.Repeated two)) = fused (fusing m c one two args)
 fused_parts m c args _ _ = Refused NotRepeated
 
 -- the fusion in this task, or the first cause, but for the limits of the hierarchy

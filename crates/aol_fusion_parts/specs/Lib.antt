@@ -4,3 +4,5 @@ pub mod Made
 pub mod Whole
 pub mod Changed
 pub mod Fuse
+pub mod Room
+pub mod Ready

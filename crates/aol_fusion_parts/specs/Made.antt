@@ -15,17 +15,11 @@ use Rattle.aol_model_types.specs.declared.task.TilerOn.{TilerOn}
 use Rattle.aol_model_types.specs.Rules.{port_shape}
 use Rattle.aol_change.specs.declared.tasks.Side.TheVariants.{Inputs, Outputs}
 use Rattle.aol_change.specs.Change.{new_name, name_limit, joined_limit, ports_limit}
+use Rattle.aol_fusion_parts.specs.declared.ports.FusedNames.{FusedNames}
 use Rattle.aol_fusion_parts.specs.Joined.{pick_to}
 use Rattle.aol_fusion_parts.specs.Ports.{port_name, renamed}
 
 -- ---- names
-
--- the names of the four new tasks
-pub record FusedNames : Type 0 where
-  pub block : List ℕ
-  pub once : List ℕ
-  pub pair : List ℕ
-  pub whole : List ℕ
 
 -- each is made from the compound's, one after another
 abbrev pub fused_names : Model → List ℕ → FusedNames

@@ -48,10 +48,15 @@ abbrev pub fused_repetition : List ℕ → List ℕ → Repeated → Repeated �
 fused_repetition name pair one two by unjoined block free outs =
     filled_whole one two by unjoined block free outs (record { name = name; ins = []; outs = []; space = two.space; task = pair; tilers = []; links = [] })
 
--- the first limit that the tilers pass
-abbrev pub placed_limit : Repeated → TilerOf → List Port → Option LimitName
-placed_limit one by block = first_some (map (λ (o : TilerOn). tiler_limit o.tiler) (placed_tilers one by 0 block))
+-- the limit that the tiler passes, where there is one
+abbrev pub placed_limit : TilerOf → Option TilerOn → Option LimitName
+placed_limit by (Some o) = tiler_limit (substituted o.tiler by)
+placed_limit by None = None
+
+-- the first limit that those on the inner inputs pass
+abbrev pub all_placed_limit : Repeated → TilerOf → List Port → Option LimitName
+all_placed_limit t by ports = first_some (map (λ (p : Port). placed_limit by (tiler_at t p.name)) ports)
 
 -- the first limit of the fused repetition
 abbrev pub whole_limit : Repeated → Repeated → TilerOf → List Port → List Port → Option LimitName
-whole_limit one two by unjoined block = or_else (ports_limit (renamed Inputs 0 (one.ins ++ unjoined)) (renamed Outputs 0 two.outs)) (placed_limit one by block)
+whole_limit one two by unjoined block = or_else (ports_limit (renamed Inputs 0 (one.ins ++ unjoined)) (renamed Outputs 0 two.outs)) (all_placed_limit one by block)

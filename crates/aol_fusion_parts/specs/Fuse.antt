@@ -17,7 +17,7 @@ use Rattle.aol_fusion_parts.specs.declared.ports.FusedNames.{FusedNames}
 use Rattle.aol_fusion_parts.specs.declared.ports.FusedPorts.{FusedPorts}
 use Rattle.aol_fusion_parts.specs.Changed.{fused_compound}
 use Rattle.aol_fusion_parts.specs.Joined.{task_of_part, are_joined, is_well_formed}
-use Rattle.aol_fusion_parts.specs.Made.{fused_names, names_limit, block_of_first, block_limit, once_port, once_of_second, once_limit, pair_of_both, pair_limit}
+use Rattle.aol_fusion_parts.specs.Made.{fused_names, names_limit, block_of_first, block_limit, over_space, once_of_second, once_limit, pair_of_both, pair_limit}
 use Rattle.aol_fusion_parts.specs.Ports.{sources, tiled_ports, picked_ports, unpicked_ports, unjoined_ports}
 use Rattle.aol_fusion_parts.specs.Whole.{fused_repetition, whole_limit}
 
@@ -53,12 +53,16 @@ fused_ports f =
 
 -- ---- the model
 
+-- the inputs of the repetition over one block
+abbrev pub block_ins : FuseArgs → FusedPorts → List Port
+block_ins args p = map (over_space args.block) p.first_ins
+
 -- the four new tasks: a block, one run, both side by side, and the repetition of that
 abbrev pub new_tasks : FuseArgs → Repeated → Repeated → FusedNames → FusedPorts → List Task
 new_tasks args one two n p =
     tasks.Repeated (block_of_first n.block args.block one.task p.first_ins p.used_outs)
     ∷ tasks.Repeated (once_of_second n.once two.task args.block p.first_outs args.picks p.second_ins p.second_outs)
-    ∷ tasks.Compound (pair_of_both n args.picks p.first_ins p.picked_ins p.free_ins p.second_outs)
+    ∷ tasks.Compound (pair_of_both n args.picks (block_ins args p) p.picked_ins p.free_ins p.second_outs)
     ∷ tasks.Repeated (fused_repetition n.whole n.pair one two args.tiler p.unjoined p.first_ins p.free_ins p.second_outs)
     ∷ []
 
@@ -77,7 +81,7 @@ abbrev pub tasks_limit : FuseArgs → Repeated → Repeated → FusedPorts → O
 tasks_limit args one two p =
     or_else (block_limit args.block p.first_ins p.used_outs)
     (or_else (once_limit args.block p.first_outs args.picks p.second_ins p.second_outs)
-    (or_else (pair_limit p.first_ins p.free_ins p.second_outs) (whole_limit one two args.tiler p.unjoined p.first_ins)))
+    (or_else (pair_limit (block_ins args p) p.free_ins p.second_outs) (whole_limit one two args.tiler p.unjoined p.first_ins)))
 
 -- the same after their names
 abbrev pub fuse_limit : Fusing → Option LimitName

@@ -1,0 +1,104 @@
+-- Ports with numbers for names.
+use Rattle.std.proofs.Common.{◌≡◌, ℕ, zero, suc, ◌+◌, ◌<◌, ◌≤◌, ◌^◌, Bool, true, false, cond, ◌||◌, List, [], ◌∷◌, ◌++◌, length, map, find, codes, decimal, Option, Some, None, option_map, sym, ◌∙◌, ap, refl, arith, subst}
+use Rattle.std.specs.List.{list_any, position_or_len}
+use Rattle.std.proofs.lemmas.Fmt.{decimal_injective}
+use Rattle.std.proofs.lemmas.List.Folds.{list_any-append}
+use Rattle.aol_shape.specs.Lists.{same}
+use Rattle.aol_expr_tree.specs.declared.port.Port.{Port}
+use Rattle.aol_model_types.specs.Rules.{port_shape}
+use Rattle.aol_flat.proofs.Names.{same-equal, same-self}
+use Rattle.aol_change.specs.Change.{is_taken}
+use Rattle.aol_change.specs.declared.tasks.Side.{Side}
+use Rattle.aol_change.specs.declared.tasks.Side.TheVariants.{Inputs, Outputs}
+use Rattle.aol_fusion_parts.specs.Ports.{port_name, renamed, port_number}
+use Rattle.aol_fusion.proofs.Fresh.{AreFresh, names_of, both_fresh, not_either}
+
+-- two numbers give two names
+number_of_name : (side : Side) (j k : ℕ) → j < 2 ^ 64 → k < 2 ^ 64 → port_name side j ≡ port_name side k → j ≡ k
+number_of_name Inputs j k few small e = (let d : decimal j ≡ decimal k = cc in decimal_injective j k few small d)
+number_of_name Outputs j k few small e = (let d : decimal j ≡ decimal k = cc in decimal_injective j k few small d)
+
+pub names_differ : (side : Side) (j k : ℕ) → j < k → k < 2 ^ 64 → same (port_name side j) (port_name side k) ≡ false
+names_differ side j k less few = go (same (port_name side j) (port_name side k)) refl
+  where
+    go : (b : Bool) → same (port_name side j) (port_name side k) ≡ b → same (port_name side j) (port_name side k) ≡ false
+    go false e = e
+    go true e = let equal : j ≡ k = number_of_name side j k (omega (arith, less, few)) few (same-equal (port_name side j) (port_name side k) e) in absurd (omega (arith, equal, less))
+
+-- none of the names from a number on was seen
+abbrev pub AreUnseen : List (List ℕ) → Side → ℕ → Type 0
+AreUnseen seen side k = (j : ℕ) → k ≤ j → j < 2 ^ 64 → is_taken seen (port_name side j) ≡ false
+
+one_more_unseen : (seen : List (List ℕ)) (side : Side) (k : ℕ) → AreUnseen seen side k → AreUnseen (seen ++ port_name side k ∷ []) side (k + 1)
+one_more_unseen seen side k h j from few =
+    list_any-append (λ m. same m (port_name side j)) seen (port_name side k ∷ [])
+    ∙ not_either (is_taken seen (port_name side j)) (is_taken (port_name side k ∷ []) (port_name side j)) (h j (omega (arith, from)) few)
+    (ap (λ b. b || false) (names_differ side k j (omega (arith, from)) few))
+
+pub renamed_fresh : (seen : List (List ℕ)) (side : Side) (k : ℕ) (ports : List Port) → AreUnseen seen side k → k + length ports ≤ 2 ^ 64 → AreFresh seen (names_of (renamed side k ports))
+renamed_fresh seen side k [] h few = tt
+renamed_fresh seen side k (p ∷ ports) h few =
+    (h k (omega arith) (omega (arith, few)), renamed_fresh (seen ++ port_name side k ∷ []) side (k + 1) ports (one_more_unseen seen side k h) (omega (arith, few)))
+
+-- inputs and outputs have different letters
+outputs_unseen : (k from : ℕ) (ports : List Port) → AreUnseen (names_of (renamed Inputs k ports)) Outputs from
+outputs_unseen k from [] j h few = refl
+outputs_unseen k from (p ∷ ports) j h few = outputs_unseen (k + 1) from ports j h few
+
+pub both_renamed_fresh : (ins outs : List Port) → length ins ≤ 2 ^ 64 → length outs ≤ 2 ^ 64 → AreFresh [] (names_of (renamed Inputs 0 ins) ++ names_of (renamed Outputs 0 outs))
+both_renamed_fresh ins outs few small =
+    both_fresh [] (names_of (renamed Inputs 0 ins)) (names_of (renamed Outputs 0 outs)) (renamed_fresh [] Inputs 0 ins (λ j h k. refl) (omega (arith, few)))
+    (renamed_fresh (names_of (renamed Inputs 0 ins)) Outputs 0 outs (outputs_unseen 0 0 ins) (omega (arith, small)))
+
+-- two lists one after the other
+pub renamed_append : (side : Side) (k : ℕ) (xs ys : List Port) → renamed side k (xs ++ ys) ≡ renamed side k xs ++ renamed side (k + length xs) ys
+renamed_append side k [] ys = ap (λ n. renamed side n ys) (let e : k ≡ k + 0 = omega arith in e)
+renamed_append side k (x ∷ xs) ys =
+    ap (λ ps. record { name = port_name side k; shape = x.shape } ∷ ps)
+    (renamed_append side (k + 1) xs ys ∙ ap (λ n. renamed side (k + 1) xs ++ renamed side n ys) (let e : k + 1 + length xs ≡ k + suc (length xs) = omega arith in e))
+
+pub length_renamed : (side : Side) (k : ℕ) (ports : List Port) → length (renamed side k ports) ≡ length ports
+length_renamed side k [] = refl
+length_renamed side k (p ∷ ports) = ap (λ n. suc n) (length_renamed side (k + 1) ports)
+
+number_le : (ports : List Port) (n : List ℕ) → port_number ports n ≤ length ports
+number_le [] n = omega arith
+number_le (p ∷ ports) n = go (same p.name n) (number_le ports n)
+  where
+    go : (b : Bool) → port_number ports n ≤ length ports → cond b 0 (suc (port_number ports n)) ≤ suc (length ports)
+    go true h = omega arith
+    go false h = omega (arith, h)
+
+-- a port is found by its new name
+pub renamed_shape : (side : Side) (k : ℕ) (ports : List Port) (n shape : List ℕ) → k + length ports < 2 ^ 64 → port_shape ports n ≡ Some shape
+    → port_shape (renamed side k ports) (port_name side (k + port_number ports n)) ≡ Some shape
+renamed_shape side k [] n shape few h = cc
+renamed_shape side k (p ∷ ports) n shape few h = go (same p.name n) refl h (renamed_shape side (k + 1) ports n shape (omega (arith, few)))
+  where
+    number : ℕ → List ℕ
+    number m = port_name side (k + m)
+
+    go : (b : Bool) → same p.name n ≡ b → option_map (λ (q : Port). q.shape) (cond b (Some p) (find (λ (q : Port). same q.name n) ports)) ≡ Some shape
+        → (port_shape ports n ≡ Some shape → port_shape (renamed side (k + 1) ports) (port_name side (k + 1 + port_number ports n)) ≡ Some shape)
+        → port_shape (renamed side k (p ∷ ports)) (port_name side (k + port_number (p ∷ ports) n)) ≡ Some shape
+    go true e f rest = first (port_number (p ∷ ports) n) here
+      where
+        here : port_number (p ∷ ports) n ≡ 0
+        here = ap (λ b. cond b 0 (suc (port_number ports n))) e
+
+        first : (m : ℕ) → m ≡ 0 → port_shape (renamed side k (p ∷ ports)) (port_name side (k + m)) ≡ Some shape
+        first m z =
+            let at : k + m ≡ k = omega (arith, z) in
+            ap (λ x. port_shape (renamed side k (p ∷ ports)) (port_name side x)) at
+            ∙ (ap (λ b. option_map (λ (q : Port). q.shape) (cond b (Some (record { name = port_name side k; shape = p.shape })) (find (λ (q : Port). same q.name (port_name side k)) (renamed side (k + 1) ports)))) (same-self (port_name side k)) ∙ f)
+    go false e f rest = later (port_number (p ∷ ports) n) here (number_le ports n)
+      where
+        here : port_number (p ∷ ports) n ≡ suc (port_number ports n)
+        here = ap (λ b. cond b 0 (suc (port_number ports n))) e
+
+        later : (m : ℕ) → m ≡ suc (port_number ports n) → port_number ports n ≤ length ports → port_shape (renamed side k (p ∷ ports)) (port_name side (k + m)) ≡ Some shape
+        later m z small =
+            let at : k + m ≡ k + 1 + port_number ports n = omega (arith, z) in
+            ap (λ x. port_shape (renamed side k (p ∷ ports)) (port_name side x)) at
+            ∙ (ap (λ b. option_map (λ (q : Port). q.shape) (cond b (Some (record { name = port_name side k; shape = p.shape })) (find (λ (q : Port). same q.name (port_name side (k + 1 + port_number ports n))) (renamed side (k + 1) ports))))
+            (names_differ side k (k + 1 + port_number ports n) (omega arith) (omega (arith, few, small))) ∙ rest f)

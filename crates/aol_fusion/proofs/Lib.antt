@@ -4,3 +4,4 @@ pub mod SameNames
 pub mod BlockAndOnce
 pub mod Renamed
 pub mod TilersOf
+pub mod NewWires

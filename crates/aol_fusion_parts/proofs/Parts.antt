@@ -1,5 +1,5 @@
 -- Lists that the code makes member by member, and limits on the way.
-use Rattle.std.proofs.Common.{◌≡◌, ℕ, suc, ◌+◌, ◌≤◌, List, ◌++◌, [], ◌∷◌, length, map, Option, Some, None, refl, ap}
+use Rattle.std.proofs.Common.{◌≡◌, ℕ, suc, ◌+◌, ◌≤◌, List, ◌++◌, [], ◌∷◌, length, map, Option, Some, None, refl, ap, ◌<◌, ◌∙◌, sym, flat_map, drop, get_or, drop-cons, append_assoc, arith}
 use Rattle.std.specs.List.{AllByRecursion}
 use Rattle.std.proofs.lemmas.List.{length-append}
 use Rattle.aol_shape.specs.Lists.{first_some, or_else}
@@ -30,3 +30,11 @@ length_links_in part k (p ∷ ports) = ap suc_of (length_links_in part (k + 1) p
   where
     suc_of : ℕ → ℕ
     suc_of n = suc n
+
+-- one more member of a list of which each is put in by several
+pub flat_more : {X Y : Type 0} (f : X → List Y) (first made new : List Y) (xs : List X) (i : ℕ) (x : X) → first ++ flat_map f xs ≡ made ++ flat_map f (drop i xs)
+    → i < length xs → x ≡ get_or xs i x → new ≡ made ++ f x → first ++ flat_map f xs ≡ new ++ flat_map f (drop (i + 1) xs)
+flat_more f first made new xs i x h less is done =
+    let here : drop i xs ≡ get_or xs i x ∷ drop (i + 1) xs = drop-cons xs i x less ∙ ap (λ n. get_or xs i x ∷ drop n xs) (let e : suc i ≡ i + 1 = omega arith in e) in
+    let at : drop i xs ≡ x ∷ drop (i + 1) xs = here ∙ ap (λ y. y ∷ drop (i + 1) xs) (sym is) in
+    h ∙ (ap (λ ys. made ++ flat_map f ys) at ∙ (append_assoc made (f x) (flat_map f (drop (i + 1) xs)) ∙ ap (λ ys. ys ++ flat_map f (drop (i + 1) xs)) (sym done)))

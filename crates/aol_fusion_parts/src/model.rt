@@ -1,6 +1,7 @@
 //! The fused model.
 
 ghost use Rattle.std.specs.Prelude.{◌≡◌, ◌+◌, ◌<◌, ◌≤◌, ◌^◌, ◌++◌, [], ◌∷◌, length, true, Some, IfOk, OnOk, if◌then◌else◌};
+ghost use Rattle.std.specs.List.{AllByRecursion};
 ghost use Rattle.std.specs.Option.{option_copied};
 ghost use Rattle.aol_model_types.specs.declared.task.Task.TheVariants as tasks;
 ghost use Rattle.aol_model_types.specs.Rules.{task_named};
@@ -9,8 +10,10 @@ ghost use Rattle.aol_change.specs.Blocks.{inputs_in};
 ghost use Rattle.aol_change.specs.Change.{Refused, within_limits};
 ghost use Rattle.aol_change.specs.Made.{IsWithin, IsStep};
 ghost use Rattle.aol_fusion_parts.specs.Changed.{fused_compound};
-ghost use Rattle.aol_fusion_parts.specs.Fuse.{fusing, fused_ports, new_tasks, tasks_limit, fused_with, fused_model, fuse_limit, is_formed, fused, fused_parts, fused_task};
-ghost use Rattle.aol_fusion_parts.specs.Made.{fused_names, names_limit};
+ghost use Rattle.aol_fusion_parts.specs.Fuse.{fusing, fused_ports, block_ins, new_tasks, tasks_limit, fused_with, fused_model, fuse_limit, is_formed, fused, fused_parts, fused_task};
+ghost use Rattle.aol_fusion_parts.specs.Made.{fused_names, names_limit, block_of_first, block_limit, once_of_second, once_limit, pair_of_both, pair_limit};
+ghost use Rattle.aol_fusion_parts.specs.Whole.{fused_repetition, whole_limit};
+ghost use Rattle.aol_fusion_parts.specs.Room.{CanPlace};
 ghost use Rattle.aol_fusion_parts.specs.Ready.{HaveNoPorts, CanPlaceAll, IsFew, AreFound, IsReady};
 
 use crate::block::block_of_first;
@@ -109,6 +112,118 @@ fn fill_ports(
     )
 }
 
+/// Pushes the repetition over one block, and copies of its inputs.
+fn push_block(
+    alloc: Global,
+    args: &FuseArgs,
+    one: &Repeated,
+    names: &FusedNames,
+    ports: &FusedPorts,
+    ins: &mut Items<Port>,
+    made: &mut Items<Task>,
+) -> Result<(), StepRefused>
+    ensures ins { OnOk result (ins.new ≡ ins.old ++ block_ins args.now ports.now) }
+    ensures made { OnOk result (made.new ≡ made.old ++ tasks.Repeated (block_of_first names.now.block args.now.block one.now.task ports.now.first_ins ports.now.used_outs) ∷ []) }
+    ensures limit { IsWithin result (block_limit args.now.block ports.now.first_ins ports.now.used_outs) }
+{
+    let task = block_of_first(
+        alloc,
+        &names.block,
+        &args.block,
+        &one.task,
+        ports.first_ins.as_slice(),
+        ports.used_outs.as_slice(),
+    )?;
+    push_copies(alloc, task.ins.as_slice(), ins)?;
+    made.push(Task::Repeated(task))?;
+    Ok(())
+}
+
+/// Pushes one run.
+fn push_once(
+    alloc: Global,
+    args: &FuseArgs,
+    two: &Repeated,
+    names: &FusedNames,
+    ports: &FusedPorts,
+    made: &mut Items<Task>,
+) -> Result<(), StepRefused>
+    ensures made { OnOk result (made.new ≡ made.old ++ tasks.Repeated (once_of_second names.now.once two.now.task args.now.block ports.now.first_outs args.now.picks ports.now.second_ins ports.now.second_outs) ∷ []) }
+    ensures limit { IsWithin result (once_limit args.now.block ports.now.first_outs args.now.picks ports.now.second_ins ports.now.second_outs) }
+{
+    let task = once_of_second(
+        alloc,
+        &names.once,
+        &two.task,
+        &args.block,
+        ports.first_outs.as_slice(),
+        args.picks.as_slice(),
+        ports.second_ins.as_slice(),
+        ports.second_outs.as_slice(),
+    )?;
+    made.push(Task::Repeated(task))?;
+    Ok(())
+}
+
+/// Pushes both side by side, where these are the inputs of the block.
+fn push_pair(
+    alloc: Global,
+    args: &FuseArgs,
+    names: &FusedNames,
+    ports: &FusedPorts,
+    block: &[Port],
+    made: &mut Items<Task>,
+) -> Result<(), StepRefused>
+    ensures made { OnOk result (made.new ≡ made.old ++ tasks.Compound (pair_of_both names.now args.now.picks block.now ports.now.picked_ins ports.now.free_ins ports.now.second_outs) ∷ []) }
+    ensures limit { IsWithin result (pair_limit block.now ports.now.free_ins ports.now.second_outs) }
+{
+    let task = pair_of_both(
+        alloc,
+        names,
+        args.picks.as_slice(),
+        block,
+        ports.picked_ins.as_slice(),
+        ports.free_ins.as_slice(),
+        ports.second_outs.as_slice(),
+    )?;
+    made.push(Task::Compound(task))?;
+    Ok(())
+}
+
+/// Pushes the fused repetition.
+fn push_whole(
+    alloc: Global,
+    args: &FuseArgs,
+    one: &Repeated,
+    two: &Repeated,
+    names: &FusedNames,
+    ports: &FusedPorts,
+    made: &mut Items<Task>,
+) -> Result<(), StepRefused>
+    requires place { AllByRecursion (CanPlace one.now args.now.tiler) ports.now.first_ins }
+    requires few { IsFew one.now ports.now }
+    ensures made { OnOk result (made.new ≡ made.old ++ tasks.Repeated (fused_repetition names.now.whole names.now.pair one.now two.now args.now.tiler ports.now.unjoined ports.now.first_ins ports.now.free_ins ports.now.second_outs) ∷ []) }
+    ensures limit { IsWithin result (whole_limit one.now two.now args.now.tiler ports.now.unjoined ports.now.first_ins) }
+{
+    let inside = Inside {
+        block: ports.first_ins.as_slice(),
+        free: ports.free_ins.as_slice(),
+        outs: ports.second_outs.as_slice(),
+    };
+    let task = fused_repetition(
+        alloc,
+        &names.whole,
+        &names.pair,
+        one,
+        two,
+        &args.tiler,
+        ports.unjoined.as_slice(),
+        inside,
+    )?;
+    made.push(Task::Repeated(task))?;
+    Ok(())
+}
+
 /// Pushes the four new tasks.
 fn push_new(
     alloc: Global,
@@ -124,45 +239,11 @@ fn push_new(
     ensures made { OnOk result (made.new ≡ made.old ++ new_tasks args.now one.now two.now names.now ports.now) }
     ensures limit { IsWithin result (tasks_limit args.now one.now two.now ports.now) }
 {
-    let picks = args.picks.as_slice();
-    let block = ports.first_ins.as_slice();
-    let free = ports.free_ins.as_slice();
-    let outs = ports.second_outs.as_slice();
-    let task = block_of_first(
-        alloc,
-        &names.block,
-        &args.block,
-        &one.task,
-        block,
-        ports.used_outs.as_slice(),
-    )?;
-    made.push(Task::Repeated(task))?;
-    let task = once_of_second(
-        alloc,
-        &names.once,
-        &two.task,
-        &args.block,
-        ports.first_outs.as_slice(),
-        picks,
-        ports.second_ins.as_slice(),
-        outs,
-    )?;
-    made.push(Task::Repeated(task))?;
-    let picked = ports.picked_ins.as_slice();
-    let task = pair_of_both(alloc, names, picks, block, picked, free, outs)?;
-    made.push(Task::Compound(task))?;
-    let inside = Inside { block, free, outs };
-    let task = fused_repetition(
-        alloc,
-        &names.whole,
-        &names.pair,
-        one,
-        two,
-        &args.tiler,
-        ports.unjoined.as_slice(),
-        inside,
-    )?;
-    made.push(Task::Repeated(task))?;
+    let mut ins = Items::new(alloc);
+    push_block(alloc, args, one, names, ports, &mut ins, made)?;
+    push_once(alloc, args, two, names, ports, made)?;
+    push_pair(alloc, args, names, ports, ins.as_slice(), made)?;
+    push_whole(alloc, args, one, two, names, ports, made)?;
     Ok(())
 }
 

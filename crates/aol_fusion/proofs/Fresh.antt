@@ -63,7 +63,7 @@ ports_fresh front earlier (p ∷ ports) at k h =
     let P : List (List ℕ) → Type 0 = λ seen. AreFresh seen (names_of ports) in
     (
       not_false (is_taken (names_of (front ++ earlier)) p.name) (sym (shape_taken (front ++ earlier) p.name) ∙ here),
-      subst P (ap names_of (append_assoc front earlier (p ∷ [])) ∙ map-append (λ (q : Port). q.name) (front ++ earlier) (p ∷ [])) (ports_fresh front (earlier ++ p ∷ []) ports at (k + 1) parts.1),
+      subst P (ap names_of (sym (append_assoc front earlier (p ∷ []))) ∙ map-append (λ (q : Port). q.name) (front ++ earlier) (p ∷ [])) (ports_fresh front (earlier ++ p ∷ []) ports at (k + 1) parts.1),
     )
 
 -- and the other way round
@@ -74,7 +74,7 @@ fresh_ports front earlier (p ∷ ports) at k h =
     hold-both (port_checks front (to_index at k) earlier p) (each_from (port_checks front) at (k + 1) (earlier ++ p ∷ []) ports)
     (hold-one (to_key (to_index at k) KName) 2 (is_new_port (front ++ earlier) p) (shape_taken (front ++ earlier) p.name ∙ ap not h.0))
     (fresh_ports front (earlier ++ p ∷ []) ports at (k + 1)
-    (subst P (sym (ap names_of (append_assoc front earlier (p ∷ [])) ∙ map-append (λ (q : Port). q.name) (front ++ earlier) (p ∷ []))) h.1))
+    (subst P (sym (ap names_of (sym (append_assoc front earlier (p ∷ []))) ∙ map-append (λ (q : Port). q.name) (front ++ earlier) (p ∷ []))) h.1))
 
 outs_fresh : (ins : List Port) (earlier outs : List OutPort) → (e : Elementary) (at : List PlaceStep) (k : ℕ) → e.ins ≡ ins → Hold (each_from (output_checks e) at k earlier outs)
     → AreFresh (names_of (ins ++ map (λ (o : OutPort). o.port) earlier)) (names_of (map (λ (o : OutPort). o.port) outs))
@@ -85,7 +85,7 @@ outs_fresh ins earlier (o ∷ outs) e at k is h =
     let here : is_none (port_shape (ins ++ map port earlier) o.port.name) ≡ true = ap (λ i. is_none (port_shape (i ++ map port earlier) o.port.name)) (sym is) ∙ (both-true (is_new_port (e.ins ++ map port earlier) o.port) _ parts.0).0 in
     let P : List (List ℕ) → Type 0 = λ seen. AreFresh seen (names_of (map port outs)) in
     let more : names_of (ins ++ map port (earlier ++ o ∷ [])) ≡ names_of (ins ++ map port earlier) ++ o.port.name ∷ [] =
-    ap (λ ps. names_of (ins ++ ps)) (map-append port earlier (o ∷ [])) ∙ (ap names_of (append_assoc ins (map port earlier) (o.port ∷ [])) ∙ map-append (λ (q : Port). q.name) (ins ++ map port earlier) (o.port ∷ [])) in
+    ap (λ ps. names_of (ins ++ ps)) (map-append port earlier (o ∷ [])) ∙ (ap names_of (sym (append_assoc ins (map port earlier) (o.port ∷ []))) ∙ map-append (λ (q : Port). q.name) (ins ++ map port earlier) (o.port ∷ [])) in
     (
       not_false (is_taken (names_of (ins ++ map port earlier)) o.port.name) (sym (shape_taken (ins ++ map port earlier) o.port.name) ∙ here),
       subst P more (outs_fresh ins (earlier ++ o ∷ []) outs e at (k + 1) is parts.1),
@@ -121,7 +121,7 @@ task_fresh before place (tasks.Repeated r) h =
 
 -- ---- what freshness gives
 
-taken_first : (n : List ℕ) (seen rest : List (List ℕ)) → is_taken (seen ++ n ∷ rest) n ≡ true
+pub taken_first : (n : List ℕ) (seen rest : List (List ℕ)) → is_taken (seen ++ n ∷ rest) n ≡ true
 taken_first n seen rest =
     list_any-append (λ m. same m n) seen (n ∷ rest) ∙ or_true (is_taken seen n) (same n n || is_taken rest n) (ap (λ b. b || is_taken rest n) (same-self n))
   where
@@ -153,6 +153,16 @@ once_there n seen (m ∷ ns) h t = sum_by-cons (λ x. cond (same x n) 1 0) m ns 
         let none : count_by (λ x. same x n) ns ≡ 0 = not_again n (seen ++ m ∷ []) ns h.1 (ap (λ x. is_taken (seen ++ x ∷ []) n) is ∙ taken_first n seen []) in
         omega (arith, none)
     go false e k rest = rest k
+
+pub taken_apart : (seen ys : List (List ℕ)) (n : List ℕ) → AreFresh seen ys → is_taken ys n ≡ true → is_taken seen n ≡ false
+taken_apart seen ys n h t = go (is_taken seen n) refl
+  where
+    go : (b : Bool) → is_taken seen n ≡ b → is_taken seen n ≡ false
+    go false e = e
+    go true e =
+        let none : count_by (λ m. same m n) ys ≡ 0 = not_again n seen ys h e in
+        let one : count_by (λ m. same m n) ys ≡ 1 = once_there n seen ys h t in
+        absurd (omega (arith, none, one))
 
 -- what stands before a name differs from it
 pub fresh_before : (seen before rest : List (List ℕ)) (n : List ℕ) → AreFresh seen (before ++ n ∷ rest) → is_taken before n ≡ false

@@ -1,7 +1,9 @@
-pub mod Fresh
-pub mod Wired
-pub mod SameNames
 pub mod BlockAndOnce
-pub mod Renamed
-pub mod TilersOf
+pub mod Fresh
+pub mod NewWhole
 pub mod NewWires
+pub mod Renamed
+pub mod SameNames
+pub mod Substituted
+pub mod TilersOf
+pub mod Wired

@@ -1,6 +1,6 @@
 -- Ports with numbers for names.
 use Rattle.std.proofs.Common.{◌≡◌, ℕ, zero, suc, ◌+◌, ◌<◌, ◌≤◌, ◌^◌, Bool, true, false, cond, ◌||◌, List, [], ◌∷◌, ◌++◌, length, map, find, codes, decimal, Option, Some, None, option_map, sym, ◌∙◌, ap, refl, arith, subst}
-use Rattle.std.specs.List.{list_any, position_or_len}
+use Rattle.std.specs.List.{IsAmong, list_any, position_or_len}
 use Rattle.std.proofs.lemmas.Fmt.{decimal_injective}
 use Rattle.std.proofs.lemmas.List.Folds.{list_any-append}
 use Rattle.aol_shape.specs.Lists.{same}
@@ -11,7 +11,7 @@ use Rattle.aol_change.specs.Change.{is_taken}
 use Rattle.aol_change.specs.declared.tasks.Side.{Side}
 use Rattle.aol_change.specs.declared.tasks.Side.TheVariants.{Inputs, Outputs}
 use Rattle.aol_fusion_parts.specs.Ports.{port_name, renamed, port_number}
-use Rattle.aol_fusion.proofs.Fresh.{AreFresh, names_of, both_fresh, not_either}
+use Rattle.aol_fusion.proofs.Fresh.{AreFresh, names_of, both_fresh, not_either, name_listed, taken_apart, taken_first}
 
 -- two numbers give two names
 number_of_name : (side : Side) (j k : ℕ) → j < 2 ^ 64 → k < 2 ^ 64 → port_name side j ≡ port_name side k → j ≡ k
@@ -102,3 +102,29 @@ renamed_shape side k (p ∷ ports) n shape few h = go (same p.name n) refl h (re
             ap (λ x. port_shape (renamed side k (p ∷ ports)) (port_name side x)) at
             ∙ (ap (λ b. option_map (λ (q : Port). q.shape) (cond b (Some (record { name = port_name side k; shape = p.shape })) (find (λ (q : Port). same q.name (port_name side (k + 1 + port_number ports n))) (renamed side (k + 1) ports))))
             (names_differ side k (k + 1 + port_number ports n) (omega arith) (omega (arith, few, small))) ∙ rest f)
+
+-- a port with a new name, by the old one
+pub renamed_member : (side : Side) (k : ℕ) (ports : List Port) (y : Port) (seen : List (List ℕ)) → AreFresh seen (names_of ports) → IsAmong (renamed side k ports) y
+    → (p : Port) × IsAmong ports p × (y.name ≡ port_name side (k + port_number ports p.name))
+renamed_member side k [] y seen h a = absurd (omega (arith, a.1.0))
+renamed_member side k (p ∷ ports) y seen h (zero, a) =
+    (
+      p, (0, (omega arith, refl)),
+      ap (λ (q : Port). q.name) a.1 ∙ ap (port_name side) (let e : k ≡ k + port_number (p ∷ ports) p.name = (let z : port_number (p ∷ ports) p.name ≡ 0 = ap (λ b. cond b 0 (suc (port_number ports p.name))) (same-self p.name) in omega (arith, z)) in e),
+    )
+renamed_member side k (p ∷ ports) y seen h (suc i, a) =
+    let r = renamed_member side (k + 1) ports y (seen ++ p.name ∷ []) h.1 (i, (omega (arith, a.0), a.1)) in
+    (r.0, (suc r.1.0, (omega (arith, r.1.1.0), r.1.1.1)), r.2 ∙ ap (port_name side) (later r.0 r.1))
+  where
+    later : (q : Port) → IsAmong ports q → k + 1 + port_number ports q.name ≡ k + port_number (p ∷ ports) q.name
+    later q b =
+        let differs : same p.name q.name ≡ false = taken_differs (names_of ports) p.name q.name (seen ++ p.name ∷ []) h.1 (taken_first p.name seen []) (name_listed ports q b) in
+        let n : port_number (p ∷ ports) q.name ≡ suc (port_number ports q.name) = ap (λ c. cond c 0 (suc (port_number ports q.name))) differs in
+        omega (arith, n)
+
+    taken_differs : (ns : List (List ℕ)) (m n : List ℕ) (s : List (List ℕ)) → AreFresh s ns → is_taken s m ≡ true → is_taken ns n ≡ true → same m n ≡ false
+    taken_differs ns m n s f t u = by_test (same m n) refl
+      where
+        by_test : (b : Bool) → same m n ≡ b → same m n ≡ false
+        by_test false e = e
+        by_test true e = let clash : true ≡ false = sym t ∙ (ap (is_taken s) (same-equal m n e) ∙ taken_apart s ns n f u) in cc

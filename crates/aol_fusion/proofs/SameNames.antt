@@ -32,6 +32,19 @@ filter_among {X = X} keep (y ∷ xs) x a = go (keep y) refl a (filter_among keep
     go true e (zero, c) rest = ((0, (omega arith, c.1)), ap keep c.1 ∙ e)
     go true e (suc i, c) rest = later (rest (i, (omega (arith, c.0), c.1)))
 
+pub among_filter : {X : Type 0} (keep : X → Bool) (xs : List X) (x : X) → IsAmong xs x → keep x ≡ true → IsAmong (filter keep xs) x
+among_filter keep [] x a e = absurd (omega (arith, a.1.0))
+among_filter {X = X} keep (y ∷ xs) x (zero, a) e = here (keep y) (ap keep (sym a.1) ∙ e)
+  where
+    here : (b : Bool) → b ≡ true → IsAmong (cond b (y ∷ filter keep xs) (filter keep xs)) x
+    here true f = (0, (omega arith, a.1))
+    here false f = cc
+among_filter {X = X} keep (y ∷ xs) x (suc i, a) e = later (keep y) (among_filter keep xs x (i, (omega (arith, a.0), a.1)) e)
+  where
+    later : (b : Bool) → IsAmong (filter keep xs) x → IsAmong (cond b (y ∷ filter keep xs) (filter keep xs)) x
+    later true r = (suc r.0, (omega (arith, r.1.0), r.1.1))
+    later false r = r
+
 -- ---- the repetition
 
 -- how a port outside, and the tiler on it, are made from an inner port

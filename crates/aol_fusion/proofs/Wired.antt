@@ -26,7 +26,7 @@ use Rattle.aol_flat.proofs.Truth.{both}
 use Rattle.aol_change.specs.Change.{is_taken}
 use Rattle.aol_change.proofs.Checks.{each-all}
 use Rattle.aol_change.proofs.KindChecks.{hold-one}
-use Rattle.aol_fusion.proofs.Fresh.{AreFresh, names_of, fresh_before, fresh_parts, fresh_ports, not_again, once_there, still_taken, shape_taken}
+use Rattle.aol_fusion.proofs.Fresh.{AreFresh, names_of, fresh_before, fresh_parts, fresh_ports, once_there, still_taken, shape_taken, taken_apart}
 
 -- a tiler by its inner port
 pub record Wire : Type 0 where
@@ -111,16 +111,6 @@ pub among_split : {X : Type 0} (xs before rest : List X) (x : X) → xs ≡ befo
 among_split {X = X} xs before rest x split = let P : List X → Type 0 = λ ys. IsAmong ys x in subst P (sym split) (among_right before (x ∷ rest) x (0, (omega (arith, refl))))
 
 -- ---- names of two sides
-
-pub taken_apart : (seen ys : List (List ℕ)) (n : List ℕ) → AreFresh seen ys → is_taken ys n ≡ true → is_taken seen n ≡ false
-taken_apart seen ys n h t = go (is_taken seen n) refl
-  where
-    go : (b : Bool) → is_taken seen n ≡ b → is_taken seen n ≡ false
-    go false e = e
-    go true e =
-        let none : count_by (λ m. same m n) ys ≡ 0 = not_again n seen ys h e in
-        let one : count_by (λ m. same m n) ys ≡ 1 = once_there n seen ys h t in
-        absurd (omega (arith, none, one))
 
 some_taken : (ports : List Port) (n shape : List ℕ) → port_shape ports n ≡ Some shape → is_taken (names_of ports) n ≡ true
 some_taken ports n shape h = not_true (is_taken (names_of ports) n) (sym (shape_taken ports n) ∙ ap is_none h)

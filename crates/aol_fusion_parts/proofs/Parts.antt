@@ -37,4 +37,4 @@ pub flat_more : {X Y : Type 0} (f : X → List Y) (first made new : List Y) (xs 
 flat_more f first made new xs i x h less is done =
     let here : drop i xs ≡ get_or xs i x ∷ drop (i + 1) xs = drop-cons xs i x less ∙ ap (λ n. get_or xs i x ∷ drop n xs) (let e : suc i ≡ i + 1 = omega arith in e) in
     let at : drop i xs ≡ x ∷ drop (i + 1) xs = here ∙ ap (λ y. y ∷ drop (i + 1) xs) (sym is) in
-    h ∙ (ap (λ ys. made ++ flat_map f ys) at ∙ (append_assoc made (f x) (flat_map f (drop (i + 1) xs)) ∙ ap (λ ys. ys ++ flat_map f (drop (i + 1) xs)) (sym done)))
+    h ∙ (ap (λ ys. made ++ flat_map f ys) at ∙ (sym (append_assoc made (f x) (flat_map f (drop (i + 1) xs))) ∙ ap (λ ys. ys ++ flat_map f (drop (i + 1) xs)) (sym done)))

@@ -19,9 +19,8 @@ use std::alloc::Global;
 fn are_links_joint(args: &FuseArgs, links: &[Plain]) -> bool
     ensures { result ≡ list_all (λ l. not (is_end_of args.now.first l.from) || is_end_of args.now.second l.to) links.now }
 {
-    links
-        .iter()
-        .all(|link| !is_end_of(&link.from, &args.first) || is_end_of(&link.to, &args.second))
+    links.iter().all(|link| !is_end_of(&link.from, &args.first)
+        || is_end_of(&link.to, &args.second))
 }
 
 /// Whether no reshape is from the first part.
@@ -82,13 +81,7 @@ fn moved_to(alloc: Global, by: Changing, end: &Hook) -> Result<Hook, NoMemory>
 fn second_to(alloc: Global, by: Changing, end: &Hook) -> Result<Hook, NoMemory>
     ensures { IfOk result (λ h. h ≡ second_to by.entry.args.now by.entry.one.now end.now) }
 {
-    let port = name_among(
-        alloc,
-        Side::Inputs,
-        &[],
-        by.one.ins.as_slice(),
-        &end.port,
-    )?;
+    let port = name_among(alloc, Side::Inputs, &[], by.one.ins.as_slice(), &end.port)?;
     let part = by.args.second.copy(alloc)?;
     Ok(Hook {
         part: Some(part),
@@ -276,12 +269,7 @@ fn fill_compound(
     push_copies(alloc, compound.outs.as_slice(), &mut made.outs)?;
     push_parts(alloc, by, whole, compound.parts.as_slice(), &mut made.parts)?;
     push_links(alloc, by, compound.links.as_slice(), &mut made.links)?;
-    push_reshapes(
-        alloc,
-        by,
-        compound.reshapes.as_slice(),
-        &mut made.reshapes,
-    )
+    push_reshapes(alloc, by, compound.reshapes.as_slice(), &mut made.reshapes)
 }
 
 /// The compound with the fused repetition at its second part.

@@ -76,9 +76,7 @@ pub fn is_joined(args: &FuseArgs, compound: &Compound, name: &Name) -> bool
     ensures { result ≡ is_joined args.now compound.now name.now }
 {
     let links = compound.links.as_slice();
-    links
-        .iter()
-        .any(|link| is_joint(args, link) && are_same(&link.to.port, name))
+    links.iter().any(|link| is_joint(args, link) && are_same(&link.to.port, name))
 }
 
 /// The first tiler on an inner port.

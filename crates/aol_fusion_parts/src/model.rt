@@ -56,11 +56,7 @@ fn fused_names(alloc: Global, model: &Model, name: &Name) -> Result<FusedNames, 
 }
 
 /// Pushes the inputs of a task, where it is there.
-fn push_inputs(
-    alloc: Global,
-    task: Option<&Task>,
-    made: &mut Items<Port>,
-) -> Result<(), NoMemory>
+fn push_inputs(alloc: Global, task: Option<&Task>, made: &mut Items<Port>) -> Result<(), NoMemory>
     ensures { OnOk result (made.new ≡ made.old ++ inputs_in (option_copied task.entry)) }
 {
     match task {

@@ -125,11 +125,7 @@ fn push_once_tilers(
 }
 
 /// Pushes the tilers that take all of a port.
-fn push_own_tilers(
-    alloc: Global,
-    ports: &[Port],
-    made: &mut Items<TilerOn>,
-) -> Result<(), NoMemory>
+fn push_own_tilers(alloc: Global, ports: &[Port], made: &mut Items<TilerOn>) -> Result<(), NoMemory>
     ensures { OnOk result (made.new ≡ made.old ++ map (tiler_over_space []) ports.now) }
 {
     for port in ports {

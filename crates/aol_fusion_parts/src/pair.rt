@@ -89,11 +89,7 @@ fn push_pick_links(
 }
 
 /// Pushes links from outputs of the run to own outputs.
-fn push_links_out(
-    alloc: Global,
-    ports: &[Port],
-    links: &mut Items<Plain>,
-) -> Result<(), NoMemory>
+fn push_links_out(alloc: Global, ports: &[Port], links: &mut Items<Plain>) -> Result<(), NoMemory>
     ensures { OnOk result (links.new ≡ links.old ++ links_out 0 ports.now) }
 {
     let mut number = 0;

@@ -3,13 +3,12 @@ use Rattle.std.proofs.Common.{◌≡◌, ℕ, ◌^◌, ◌<◌, Bool, true, fals
 use Rattle.std.specs.List.{list_any}
 use Rattle.aol_shape.specs.Lists.{same}
 use Rattle.aol_model_types.specs.declared.document.Model.{Model}
-use Rattle.aol_model_types.specs.declared.job.FuseArgs.{FuseArgs}
 use Rattle.aol_model_types.specs.declared.task.Compound.{Compound}
 use Rattle.aol_model_types.specs.declared.task.Task.{Task}
 use Rattle.aol_model_types.specs.declared.task.Task.TheVariants as tasks
 use Rattle.aol_model_types.specs.Rules.{task_name, task_named}
 use Rattle.aol_flat.specs.Accept.{IsSound}
-use Rattle.aol_change.specs.Change.{Changed, Refused, bounded, within_limits, has_links, KeepsTasks}
+use Rattle.aol_change.specs.Change.{Changed, Refused, within_limits, has_links, KeepsTasks}
 use Rattle.aol_change.specs.declared.refused.StepRefused.TheVariants.{NotJoined, HasLinks}
 use Rattle.aol_change.proofs.ChangedTasks.{within_changed, bounded_changed}
 use Rattle.aol_change.proofs.KeptTasks.{apart_from_main, keeps_tasks}

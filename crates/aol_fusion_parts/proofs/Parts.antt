@@ -1,8 +1,8 @@
 -- Lists that the code makes member by member, and limits on the way.
-use Rattle.std.proofs.Common.{◌≡◌, ℕ, suc, ◌+◌, ◌≤◌, List, ◌++◌, [], ◌∷◌, length, map, Option, Some, None, refl, ap, ◌<◌, ◌∙◌, sym, flat_map, drop, get_or, drop-cons, append_assoc, arith}
+use Rattle.std.proofs.Common.{◌≡◌, ℕ, suc, ◌+◌, List, ◌++◌, [], ◌∷◌, length, map, Option, Some, None, refl, ap, ◌<◌, ◌∙◌, sym, flat_map, drop, get_or, drop-cons, append_assoc, arith}
 use Rattle.std.specs.List.{AllByRecursion}
 use Rattle.std.proofs.lemmas.List.{length-append}
-use Rattle.aol_shape.specs.Lists.{first_some, or_else}
+use Rattle.aol_shape.specs.Lists.{first_some}
 use Rattle.aol_shape.specs.declared.limit.LimitName.{LimitName}
 use Rattle.aol_expr_tree.specs.declared.port.Port.{Port}
 use Rattle.aol_change.specs.Change.{joined_limit}

@@ -1,20 +1,17 @@
 -- The tilers of the first repetition can be placed, and the ports counted.
-use Rattle.std.proofs.Common.{◌≡◌, ℕ, zero, suc, ◌+◌, ◌<◌, ◌≤◌, ◌^◌, Bool, true, false, cond, ◌&&◌, ◌==◌, List, [], ◌∷◌, ◌++◌, length, map, filter, Option, Some, None, is_some, unwrap_or, sym, ◌∙◌, ap, refl, arith, subst}
+use Rattle.std.proofs.Common.{◌≡◌, ℕ, zero, suc, ◌<◌, ◌≤◌, ◌^◌, Bool, true, false, cond, ◌&&◌, ◌==◌, List, [], ◌∷◌, ◌++◌, length, filter, Option, Some, None, sym, ◌∙◌, ap, refl, arith, subst}
 use Rattle.std.specs.List.{IsAmong, AllByRecursion}
-use Rattle.std.proofs.lemmas.List.{length-map}
 use Rattle.aol_shape.specs.Lists.{same}
-use Rattle.aol_tiler.specs.Makers.{AreSubstitutable}
 use Rattle.aol_tiler.specs.Matrices.{TilerOf}
 use Rattle.aol_tiler.specs.Tiler.{fits, is_over, has_entries}
 use Rattle.aol_expr_tree.specs.declared.port.Port.{Port}
 use Rattle.aol_model_types.specs.declared.document.Model.{Model}
-use Rattle.aol_model_types.specs.declared.task.OutPort.{OutPort}
 use Rattle.aol_model_types.specs.declared.task.Repeated.{Repeated}
 use Rattle.aol_model_types.specs.declared.task.Task.{Task}
 use Rattle.aol_model_types.specs.declared.task.Task.TheVariants as tasks
 use Rattle.aol_model_types.specs.declared.task.TilerOn.{TilerOn}
 use Rattle.aol_model_types.specs.Rules.{task_name, task_named, inputs_of, outputs_of, inputs_named, port_shape, fits_in}
-use Rattle.aol_model_types.specs.Types.{IsTask, IsCounted}
+use Rattle.aol_model_types.specs.Types.{IsTask}
 use Rattle.aol_flat.specs.Accept.{IsSound}
 use Rattle.aol_flat.specs.Home.{tiler_at}
 use Rattle.aol_flat.proofs.Checked.{of_repeated, task_of, named_earlier}

@@ -1,5 +1,5 @@
 -- What the step answers, by what its parts do.
-use Rattle.std.proofs.Common.{◌≡◌, ℕ, Bool, true, false, List, Option, Some, None, Result, if◌then◌else◌, sym, ◌∙◌, ap, subst}
+use Rattle.std.proofs.Common.{◌≡◌, ℕ, Bool, true, List, Option, Some, None, Result, if◌then◌else◌, sym, ◌∙◌, ap, subst}
 use Rattle.aol_shape.specs.declared.limit.LimitName.{LimitName}
 use Rattle.aol_shape.specs.Lists.{or_else}
 use Rattle.aol_expr_tree.specs.declared.port.Port.{Port}
@@ -11,7 +11,7 @@ use Rattle.aol_model_types.specs.Rules.{task_name, task_named, part_named}
 use Rattle.aol_flat.proofs.Find.{found_name, and_then_some}
 use Rattle.aol_change.specs.declared.refused.StepRefused.{StepRefused}
 use Rattle.aol_change.specs.declared.refused.StepRefused.TheVariants.{NotJoined}
-use Rattle.aol_change.specs.Change.{Stepped, Refused, within_limits}
+use Rattle.aol_change.specs.Change.{Refused, within_limits}
 use Rattle.aol_change.specs.Made.{IsStep}
 use Rattle.aol_fusion_parts.specs.declared.ports.FusedNames.{FusedNames}
 use Rattle.aol_fusion_parts.specs.declared.ports.FusedPorts.{FusedPorts}

@@ -1,5 +1,5 @@
 -- The ports of a fusion's tasks, and their names.
-use Rattle.std.specs.Prelude.{ℕ, ◌+◌, not, is_some, List, [], ◌∷◌, ◌++◌, filter, length, codes, decimal}
+use Rattle.std.specs.Prelude.{ℕ, ◌+◌, not, is_some, List, [], ◌∷◌, ◌++◌, filter, codes, decimal}
 use Rattle.std.specs.List.{position_or_len}
 use Rattle.aol_shape.specs.Lists.{same}
 use Rattle.aol_expr_tree.specs.declared.port.Port.{Port}

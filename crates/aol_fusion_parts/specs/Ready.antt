@@ -1,5 +1,5 @@
 -- What is known when the new tasks of a fusion are made.
-use Rattle.std.specs.Prelude.{◌≡◌, ◌+◌, ◌<◌, ◌^◌, List, [], length, true, Some, None}
+use Rattle.std.specs.Prelude.{◌≡◌, ◌+◌, ◌<◌, ◌^◌, [], length, true, Some, None}
 use Rattle.std.specs.List.{AllByRecursion}
 use Rattle.aol_model_types.specs.declared.job.FuseArgs.{FuseArgs}
 use Rattle.aol_model_types.specs.declared.task.Repeated.{Repeated}

@@ -1,7 +1,5 @@
-use Rattle.aol_change.specs.Change.{ports_limit}
 use Rattle.aol_change.proofs.Room.{neither_limit}
-use Rattle.aol_shape.specs.Lists.{or_else}
-use Rattle.aol_fusion_parts.specs.Made.{over_limit, over_space}
+use Rattle.aol_fusion_parts.specs.Made.{over_limit}
 use Rattle.aol_fusion_parts.proofs.model.push_new.Goals as goal
 
 pub push_whole-requires-clause-place : goal.push_whole-requires-clause-place

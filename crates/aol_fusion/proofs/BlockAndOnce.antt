@@ -43,7 +43,7 @@ block_holds ts u name block task picks found fresh q =
     (fewer_fresh (λ (p : Port). p.name) keep (names_of (inputs_of u)) (names_of (inputs_of u)) (outputs_of u) (λ n k. k) outs)
     (λ p a. (filter_among keep (outputs_of u) p a).0)
     (over_maker block (inputs_of u)) (over_maker block (sources picks (outputs_of u)))
-    (record { ins = refl; outs = refl; tilers = refl; plain = refl })) q
+    (record { ins_are = refl; outs_are = refl; tilers = refl; plain = refl })) q
 
 -- ---- one run of the second
 
@@ -87,4 +87,4 @@ once_holds ts v name task args sources two found fresh all q =
     (fewer_fresh (λ (p : Port). p.name) keep (names_of (inputs_of v)) (names_of (inputs_of v)) (outputs_of v) (λ n k. k) parts.1)
     (λ p a. (filter_among keep (outputs_of v) p a).0)
     (once_maker args sources (inputs_of v) parts.0 all) (own_maker outs)
-    (record { ins = refl; outs = map_same outs; tilers = refl; plain = refl })) q
+    (record { ins_are = refl; outs_are = map_same outs; tilers = refl; plain = refl })) q

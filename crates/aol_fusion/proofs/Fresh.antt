@@ -140,7 +140,7 @@ not_again n seen (m ∷ ns) h t =
   where
     go : (b : Bool) → same m n ≡ b → count_by (λ x. same x n) ns ≡ 0 → cond b 1 0 + count_by (λ x. same x n) ns ≡ 0
     go true e k = let is : m ≡ n = same-equal m n e in let clash : true ≡ false = sym t ∙ (ap (is_taken seen) (sym is) ∙ h.0) in cc
-    go false e k = k
+    go false e k = omega (arith, k)
 
 -- each fresh name is there once
 pub once_there : (n : List ℕ) (seen ns : List (List ℕ)) → AreFresh seen ns → is_taken ns n ≡ true → count_by (λ m. same m n) ns ≡ 1
@@ -152,7 +152,7 @@ once_there n seen (m ∷ ns) h t = sum_by-cons (λ x. cond (same x n) 1 0) m ns 
         let is : m ≡ n = same-equal m n e in
         let none : count_by (λ x. same x n) ns ≡ 0 = not_again n (seen ++ m ∷ []) ns h.1 (ap (λ x. is_taken (seen ++ x ∷ []) n) is ∙ taken_first n seen []) in
         omega (arith, none)
-    go false e k rest = rest k
+    go false e k rest = let one : count_by (λ x. same x n) ns ≡ 1 = rest k in omega (arith, one)
 
 pub taken_apart : (seen ys : List (List ℕ)) (n : List ℕ) → AreFresh seen ys → is_taken ys n ≡ true → is_taken seen n ≡ false
 taken_apart seen ys n h t = go (is_taken seen n) refl

@@ -30,7 +30,7 @@ use Rattle.aol_fusion_parts.specs.Ports.{port_name, renamed, name_among, port_nu
 use Rattle.aol_fusion_parts.specs.Whole.{fused_repetition, placed_tilers, moved_tilers}
 use Rattle.aol_fusion.proofs.Fresh.{AreFresh, names_of, fresh_own, fresh_parts, name_listed, still_taken}
 use Rattle.aol_fusion.proofs.NewWires.{new_wires, placed_are, moved_are, new_inners, each_wire, wire_of}
-use Rattle.aol_fusion.proofs.Renamed.{both_renamed_fresh, renamed_append, renamed_shape, renamed_member}
+use Rattle.aol_fusion.proofs.Renamed.{both_renamed_fresh, renamed_both, renamed_shape, renamed_member}
 use Rattle.aol_fusion.proofs.SameNames.{map_both, filter_among, among_filter}
 use Rattle.aol_fusion.proofs.Substituted.{substituted_fits}
 use Rattle.aol_fusion.proofs.TilersOf.{FitsSide}
@@ -91,7 +91,7 @@ module _ (ts : List Task) (args : FuseArgs) (c : Compound) (one two : Repeated) 
       ∙ (ap (λ ps. renamed Inputs 0 (map (over_space args.block) block) ++ ps)
       (new_inners two Inputs (length one.ins) unjoined (λ a. a) (λ p. p) (length block) free (λ p a. old.second_tiled p (filter_among (λ (q : Port). not (is_picked args c two q.name)) (inputs_of v) p a).0)
       ∙ ap (renamed Inputs (length block)) (map_same free))
-      ∙ (sym (renamed_append Inputs 0 (map (over_space args.block) block) free ∙ ap (λ n. renamed Inputs 0 (map (over_space args.block) block) ++ renamed Inputs n free) (length-map block (over_space args.block))) ∙ sym x_ins)))
+      ∙ (sym (renamed_both Inputs (map (over_space args.block) block) free ∙ ap (λ n. renamed Inputs 0 (map (over_space args.block) block) ++ renamed Inputs n free) (length-map block (over_space args.block))) ∙ sym x_ins)))
 
   out_inners : map inner_of_wire ends ≡ outputs_of x
   out_inners =
@@ -123,7 +123,7 @@ module _ (ts : List Task) (args : FuseArgs) (c : Compound) (one two : Repeated) 
   first_outside : (n shape : List ℕ) → port_shape one.ins n ≡ Some shape → port_shape whole.ins (name_among Inputs 0 one.ins n) ≡ Some shape
   first_outside n shape h =
       let few = old.few_in in
-      ap (λ ps. port_shape ps (name_among Inputs 0 one.ins n)) (renamed_append Inputs 0 one.ins unjoined)
+      ap (λ ps. port_shape ps (name_among Inputs 0 one.ins n)) (renamed_both Inputs one.ins unjoined)
       ∙ shape_left (renamed Inputs 0 one.ins) (renamed Inputs (length one.ins) unjoined) (name_among Inputs 0 one.ins n) shape (renamed_shape Inputs 0 one.ins n shape (omega (arith, few)) h)
 
   placed_outside : (w : Wire) → IsAmong placed w → FitsOutside whole.ins two.space w
@@ -153,8 +153,8 @@ module _ (ts : List Task) (args : FuseArgs) (c : Compound) (one two : Repeated) 
       let P : List (List ℕ) → Type 0 = λ ns. AreFresh [] ns in
       let ins_fresh : AreFresh [] (names_of (renamed Inputs 0 (one.ins ++ unjoined))) = (fresh_parts [] (names_of whole.ins) (names_of whole.outs) own_fresh).0 in
       let both : AreFresh [] (names_of (renamed Inputs 0 one.ins) ++ names_of (renamed Inputs (length one.ins) unjoined)) =
-      subst P (ap names_of (renamed_append Inputs 0 one.ins unjoined) ∙ map-append (λ (q : Port). q.name) (renamed Inputs 0 one.ins) (renamed Inputs (length one.ins) unjoined)) ins_fresh in
-      ap (λ ps. port_shape ps (name_among Inputs (length one.ins) unjoined n)) (renamed_append Inputs 0 one.ins unjoined)
+      subst P (ap names_of (renamed_both Inputs one.ins unjoined) ∙ map-append (λ (q : Port). q.name) (renamed Inputs 0 one.ins) (renamed Inputs (length one.ins) unjoined)) ins_fresh in
+      ap (λ ps. port_shape ps (name_among Inputs (length one.ins) unjoined n)) (renamed_both Inputs one.ins unjoined)
       ∙ shape_right (renamed Inputs 0 one.ins) (renamed Inputs (length one.ins) unjoined) (name_among Inputs (length one.ins) unjoined n) shape
       (sides_differ (renamed Inputs 0 one.ins) (renamed Inputs (length one.ins) unjoined) (name_among Inputs (length one.ins) unjoined n) shape both here) here
 
@@ -184,11 +184,11 @@ module _ (ts : List Task) (args : FuseArgs) (c : Compound) (one two : Repeated) 
   -- a tiler is on each output
   ends_tiled : (y : Port) → IsAmong whole.outs y → (w : Wire) × IsAmong ends w × (w.outer ≡ y.name)
   ends_tiled y a =
-      let z = renamed_member Outputs 0 two.outs y (fresh_parts [] (names_of two.ins) (names_of two.outs) two_fresh).1 a in
+      let z = renamed_member Outputs 0 two.outs y (names_of two.ins) (fresh_parts [] (names_of two.ins) (names_of two.outs) two_fresh).1 a in
       let r = old.out_tiled z.0 z.1 in
-      let kept : IsAmong outs r.0 = among_filter (λ (q : Port). is_some (tiler_at two q.name)) (outputs_of v) r.0 r.2.0 (ap is_some r.2.1.0) in
-      let w = wire_of two Outputs 0 two.outs (λ t. t) (λ p. p) 0 outs r.0 r.1 kept r.2.1.0 in
-      (w.0, w.1, w.2 ∙ (ap (name_among Outputs 0 two.outs) r.2.1.1 ∙ sym z.2))
+      let kept : IsAmong outs r.0 = among_filter (λ (q : Port). is_some (tiler_at two q.name)) (outputs_of v) r.0 r.2 (ap is_some r.3) in
+      let w = wire_of two Outputs 0 two.outs (λ t. t) (λ p. p) 0 outs r.0 r.1 kept r.3 in
+      (w.0, w.1, w.2 ∙ (ap (name_among Outputs 0 two.outs) r.4 ∙ sym z.2))
 
   -- all its tilers
   whole_wired : IsWiredBy whole x (placed ++ moved) ends

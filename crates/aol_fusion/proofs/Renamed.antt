@@ -1,5 +1,5 @@
 -- Ports with numbers for names.
-use Rattle.std.proofs.Common.{◌≡◌, ℕ, zero, suc, ◌+◌, ◌<◌, ◌≤◌, ◌^◌, Bool, true, false, cond, ◌||◌, List, [], ◌∷◌, ◌++◌, length, map, find, codes, decimal, Option, Some, None, option_map, sym, ◌∙◌, ap, refl, arith, subst}
+use Rattle.std.proofs.Common.{◌≡◌, ℕ, zero, suc, ◌+◌, ◌<◌, ◌≤◌, ◌^◌, Bool, true, false, cond, not, ◌||◌, List, [], ◌∷◌, ◌++◌, length, map, find, codes, decimal, Option, Some, None, option_map, sym, ◌∙◌, ap, refl, arith, subst}
 use Rattle.std.specs.List.{IsAmong, list_any, position_or_len}
 use Rattle.std.proofs.lemmas.Fmt.{decimal_injective}
 use Rattle.std.proofs.lemmas.List.Folds.{list_any-append}
@@ -57,17 +57,27 @@ renamed_append side k (x ∷ xs) ys =
     ap (λ ps. record { name = port_name side k; shape = x.shape } ∷ ps)
     (renamed_append side (k + 1) xs ys ∙ ap (λ n. renamed side (k + 1) xs ++ renamed side n ys) (let e : k + 1 + length xs ≡ k + suc (length xs) = omega arith in e))
 
+pub renamed_both : (side : Side) (xs ys : List Port) → renamed side 0 (xs ++ ys) ≡ renamed side 0 xs ++ renamed side (length xs) ys
+renamed_both side xs ys = renamed_append side 0 xs ys ∙ ap (λ n. renamed side 0 xs ++ renamed side n ys) (let e : 0 + length xs ≡ length xs = omega arith in e)
+
 pub length_renamed : (side : Side) (k : ℕ) (ports : List Port) → length (renamed side k ports) ≡ length ports
 length_renamed side k [] = refl
 length_renamed side k (p ∷ ports) = ap (λ n. suc n) (length_renamed side (k + 1) ports)
 
+-- the number of a name, by the first port
+number_here : (p : Port) (ports : List Port) (n : List ℕ) → same p.name n ≡ true → port_number (p ∷ ports) n ≡ 0
+number_here p ports n e = ap (λ b. cond (not b) (1 + port_number ports n) 0) e
+
+number_later : (p : Port) (ports : List Port) (n : List ℕ) → same p.name n ≡ false → port_number (p ∷ ports) n ≡ 1 + port_number ports n
+number_later p ports n e = ap (λ b. cond (not b) (1 + port_number ports n) 0) e
+
 number_le : (ports : List Port) (n : List ℕ) → port_number ports n ≤ length ports
 number_le [] n = omega arith
-number_le (p ∷ ports) n = go (same p.name n) (number_le ports n)
+number_le (p ∷ ports) n = go (same p.name n) refl (number_le ports n)
   where
-    go : (b : Bool) → port_number ports n ≤ length ports → cond b 0 (suc (port_number ports n)) ≤ suc (length ports)
-    go true h = omega arith
-    go false h = omega (arith, h)
+    go : (b : Bool) → same p.name n ≡ b → port_number ports n ≤ length ports → port_number (p ∷ ports) n ≤ suc (length ports)
+    go true e h = (let z : port_number (p ∷ ports) n ≡ 0 = number_here p ports n e in omega (arith, z))
+    go false e h = (let z : port_number (p ∷ ports) n ≡ 1 + port_number ports n = number_later p ports n e in omega (arith, z, h))
 
 -- a port is found by its new name
 pub renamed_shape : (side : Side) (k : ℕ) (ports : List Port) (n shape : List ℕ) → k + length ports < 2 ^ 64 → port_shape ports n ≡ Some shape
@@ -81,27 +91,28 @@ renamed_shape side k (p ∷ ports) n shape few h = go (same p.name n) refl h (re
     go : (b : Bool) → same p.name n ≡ b → option_map (λ (q : Port). q.shape) (cond b (Some p) (find (λ (q : Port). same q.name n) ports)) ≡ Some shape
         → (port_shape ports n ≡ Some shape → port_shape (renamed side (k + 1) ports) (port_name side (k + 1 + port_number ports n)) ≡ Some shape)
         → port_shape (renamed side k (p ∷ ports)) (port_name side (k + port_number (p ∷ ports) n)) ≡ Some shape
-    go true e f rest = first (port_number (p ∷ ports) n) here
+    go true e f rest = first (port_number (p ∷ ports) n) (number_here p ports n e)
       where
-        here : port_number (p ∷ ports) n ≡ 0
-        here = ap (λ b. cond b 0 (suc (port_number ports n))) e
-
         first : (m : ℕ) → m ≡ 0 → port_shape (renamed side k (p ∷ ports)) (port_name side (k + m)) ≡ Some shape
         first m z =
             let at : k + m ≡ k = omega (arith, z) in
             ap (λ x. port_shape (renamed side k (p ∷ ports)) (port_name side x)) at
             ∙ (ap (λ b. option_map (λ (q : Port). q.shape) (cond b (Some (record { name = port_name side k; shape = p.shape })) (find (λ (q : Port). same q.name (port_name side k)) (renamed side (k + 1) ports)))) (same-self (port_name side k)) ∙ f)
-    go false e f rest = later (port_number (p ∷ ports) n) here (number_le ports n)
+    go false e f rest = later (port_number (p ∷ ports) n) (number_later p ports n e) (number_le ports n)
       where
-        here : port_number (p ∷ ports) n ≡ suc (port_number ports n)
-        here = ap (λ b. cond b 0 (suc (port_number ports n))) e
-
-        later : (m : ℕ) → m ≡ suc (port_number ports n) → port_number ports n ≤ length ports → port_shape (renamed side k (p ∷ ports)) (port_name side (k + m)) ≡ Some shape
+        later : (m : ℕ) → m ≡ 1 + port_number ports n → port_number ports n ≤ length ports → port_shape (renamed side k (p ∷ ports)) (port_name side (k + m)) ≡ Some shape
         later m z small =
             let at : k + m ≡ k + 1 + port_number ports n = omega (arith, z) in
             ap (λ x. port_shape (renamed side k (p ∷ ports)) (port_name side x)) at
             ∙ (ap (λ b. option_map (λ (q : Port). q.shape) (cond b (Some (record { name = port_name side k; shape = p.shape })) (find (λ (q : Port). same q.name (port_name side (k + 1 + port_number ports n))) (renamed side (k + 1) ports))))
             (names_differ side k (k + 1 + port_number ports n) (omega arith) (omega (arith, few, small))) ∙ rest f)
+
+taken_differs : (ns : List (List ℕ)) (m n : List ℕ) (s : List (List ℕ)) → AreFresh s ns → is_taken s m ≡ true → is_taken ns n ≡ true → same m n ≡ false
+taken_differs ns m n s f t u = by_test (same m n) refl
+  where
+    by_test : (b : Bool) → same m n ≡ b → same m n ≡ false
+    by_test false e = e
+    by_test true e = let clash : true ≡ false = sym t ∙ (ap (is_taken s) (same-equal m n e) ∙ taken_apart s ns n f u) in cc
 
 -- a port with a new name, by the old one
 pub renamed_member : (side : Side) (k : ℕ) (ports : List Port) (y : Port) (seen : List (List ℕ)) → AreFresh seen (names_of ports) → IsAmong (renamed side k ports) y
@@ -110,7 +121,7 @@ renamed_member side k [] y seen h a = absurd (omega (arith, a.1.0))
 renamed_member side k (p ∷ ports) y seen h (zero, a) =
     (
       p, (0, (omega arith, refl)),
-      ap (λ (q : Port). q.name) a.1 ∙ ap (port_name side) (let e : k ≡ k + port_number (p ∷ ports) p.name = (let z : port_number (p ∷ ports) p.name ≡ 0 = ap (λ b. cond b 0 (suc (port_number ports p.name))) (same-self p.name) in omega (arith, z)) in e),
+      ap (λ (q : Port). q.name) a.1 ∙ ap (port_name side) (let e : k ≡ k + port_number (p ∷ ports) p.name = (let z : port_number (p ∷ ports) p.name ≡ 0 = number_here p ports p.name (same-self p.name) in omega (arith, z)) in e),
     )
 renamed_member side k (p ∷ ports) y seen h (suc i, a) =
     let r = renamed_member side (k + 1) ports y (seen ++ p.name ∷ []) h.1 (i, (omega (arith, a.0), a.1)) in
@@ -119,12 +130,5 @@ renamed_member side k (p ∷ ports) y seen h (suc i, a) =
     later : (q : Port) → IsAmong ports q → k + 1 + port_number ports q.name ≡ k + port_number (p ∷ ports) q.name
     later q b =
         let differs : same p.name q.name ≡ false = taken_differs (names_of ports) p.name q.name (seen ++ p.name ∷ []) h.1 (taken_first p.name seen []) (name_listed ports q b) in
-        let n : port_number (p ∷ ports) q.name ≡ suc (port_number ports q.name) = ap (λ c. cond c 0 (suc (port_number ports q.name))) differs in
+        let n : port_number (p ∷ ports) q.name ≡ 1 + port_number ports q.name = number_later p ports q.name differs in
         omega (arith, n)
-
-    taken_differs : (ns : List (List ℕ)) (m n : List ℕ) (s : List (List ℕ)) → AreFresh s ns → is_taken s m ≡ true → is_taken ns n ≡ true → same m n ≡ false
-    taken_differs ns m n s f t u = by_test (same m n) refl
-      where
-        by_test : (b : Bool) → same m n ≡ b → same m n ≡ false
-        by_test false e = e
-        by_test true e = let clash : true ≡ false = sym t ∙ (ap (is_taken s) (same-equal m n e) ∙ taken_apart s ns n f u) in cc

@@ -61,8 +61,8 @@ own_wire tiler p = record { outer = p.name; inner = p; tiler = tiler p }
 
 -- its parts
 pub record HasOwnNames (t : Repeated) (u : Task) (outs : List Port) (in_port out_port : Port → Port) (in_tiler out_tiler : Port → TilerOf) : Type 0 where
-  pub ins : t.ins ≡ map in_port (inputs_of u)
-  pub outs : t.outs ≡ map out_port outs
+  pub ins_are : t.ins ≡ map in_port (inputs_of u)
+  pub outs_are : t.outs ≡ map out_port outs
   pub tilers : t.tilers ≡ map (own_tiler in_tiler) (inputs_of u) ++ map (own_tiler out_tiler) outs
   pub plain : t.links ≡ []
 
@@ -91,8 +91,8 @@ own_wired t u outs in_port out_port in_tiler out_tiler fresh outs_fresh inside i
     let name : Wire → List ℕ = λ w. w.inner.name in
     let parts = fresh_parts [] (names_of (inputs_of u)) (names_of (outputs_of u)) fresh in
     let both : AreFresh [] (names_of (inputs_of u) ++ names_of outs) = both_fresh [] (names_of (inputs_of u)) (names_of outs) parts.0 outs_fresh in
-    let in_names : names_of t.ins ≡ names_of (inputs_of u) = ap names_of has.ins ∙ names_kept in_port (inputs_of u) in_maker.named in
-    let out_names : names_of t.outs ≡ names_of outs = ap names_of has.outs ∙ names_kept out_port outs out_maker.named in
+    let in_names : names_of t.ins ≡ names_of (inputs_of u) = ap names_of has.ins_are ∙ names_kept in_port (inputs_of u) in_maker.named in
+    let out_names : names_of t.outs ≡ names_of outs = ap names_of has.outs_are ∙ names_kept out_port outs out_maker.named in
     let P : List (List ℕ) → Type 0 = λ ns. AreFresh [] ns in
     let wire_ins : map name (map (own_wire in_tiler) (inputs_of u)) ≡ names_of (inputs_of u) = map_both (own_wire in_tiler) name (λ (p : Port). p.name) (inputs_of u) (λ p. refl) in
     let wire_outs : map name (map (own_wire out_tiler) outs) ≡ names_of outs = map_both (own_wire out_tiler) name (λ (p : Port). p.name) outs (λ p. refl) in
@@ -114,10 +114,10 @@ own_wired t u outs in_port out_port in_tiler out_tiler fresh outs_fresh inside i
           (let p = among_map (own_wire out_tiler) outs w a in
           ap (λ (x : Wire). port_shape (outputs_of u) x.inner.name) p.2
           ∙ (fresh_own (names_of (inputs_of u)) (outputs_of u) p.0 parts.1 (inside p.0 p.1) ∙ ap (λ (x : Wire). Some x.inner.shape) (sym p.2)));
-      in_outside = λ w a. made_outside t.space (inputs_of u) in_port in_tiler [] t.ins w in_maker has.ins parts.0 a;
-      out_outside = λ w a. made_outside t.space outs out_port out_tiler (names_of (inputs_of u)) t.outs w out_maker has.outs outs_fresh a;
+      in_outside = λ w a. made_outside t.space (inputs_of u) in_port in_tiler [] t.ins w in_maker has.ins_are parts.0 a;
+      out_outside = λ w a. made_outside t.space outs out_port out_tiler (names_of (inputs_of u)) t.outs w out_maker has.outs_are outs_fresh a;
       tiled = λ y a.
           (let Q : List Port → Type 0 = λ ps. IsAmong ps y in
-          let p = among_map out_port outs y (subst Q has.outs a) in
+          let p = among_map out_port outs y (subst Q has.outs_are a) in
           (own_wire out_tiler p.0, map_among (own_wire out_tiler) outs p.0 p.1, sym (out_maker.named p.0) ∙ ap (λ (x : Port). x.name) (sym p.2)));
     }

@@ -38,9 +38,10 @@ module _ (before : List Task) (place : List PlaceStep) (t : Repeated) (u : Task)
   outs_are : outputs_named before t.task ≡ outputs_of u
   outs_are = ap (λ (o : Option Task). unwrap_or (option_map outputs_of o) []) found
 
+  inner_fresh : AreFresh [] (names_of (inputs_of u)) × AreFresh (names_of (inputs_of u)) (names_of (outputs_of u))
   inner_fresh = fresh_parts [] (names_of (inputs_of u)) (names_of (outputs_of u)) fresh
 
-  at_name : List ℕ → TilerOn → Bool
+  abbrev at_name : List ℕ → TilerOn → Bool
   at_name n e = same e.inner n
 
   -- the shape of an inner port, and of the port outside
@@ -122,7 +123,8 @@ module _ (before : List Task) (place : List PlaceStep) (t : Repeated) (u : Task)
       let one = fed_once before place t p.name holds (ap is_some inside) in
       let none : count_by (λ (l : Interlink). same l.to p.name) t.links ≡ 0 = ap (count_by (λ (l : Interlink). same l.to p.name)) plain in
       let some : 1 ≤ count_by (at_name p.name) t.tilers = omega (arith, one, none) in
-      ap is_some (counted_found (at_name p.name) t.tilers some).1
+      let o = counted_found (at_name p.name) t.tilers some in
+      ap is_some o.1
 
   -- on each output there is the tiler of an inner output
   pub output_tiled : (y : Port) → IsAmong t.outs y → (p : Port) × (o : TilerOn) × IsAmong (outputs_of u) p × (tiler_at t p.name ≡ Some o) × (o.outer ≡ y.name)

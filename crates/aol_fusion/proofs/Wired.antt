@@ -108,7 +108,7 @@ split_at f (x ∷ xs) (z ∷ front) rest y h =
     }
 
 pub among_split : {X : Type 0} (xs before rest : List X) (x : X) → xs ≡ before ++ x ∷ rest → IsAmong xs x
-among_split {X = X} xs before rest x split = let P : List X → Type 0 = λ ys. IsAmong ys x in subst P (sym split) (among_right before (x ∷ rest) x (0, (omega (arith, refl))))
+among_split {X = X} xs before rest x split = let P : List X → Type 0 = λ ys. IsAmong ys x in subst P (sym split) (among_right before (x ∷ rest) x (0, (omega arith, refl)))
 
 -- ---- names of two sides
 
@@ -151,7 +151,7 @@ module _ (ts : List Task) (t : Repeated) (u : Task) (ins outs : List Wire) (foun
   tilers_are : t.tilers ≡ map tiler_of (ins ++ outs)
   tilers_are = by.tilers ∙ sym (map-append tiler_of ins outs)
 
-  on_name : List ℕ → TilerOn → Bool
+  abbrev on_name : List ℕ → TilerOn → Bool
   on_name n e = same e.inner n
 
   -- a tiler on an input

@@ -7,3 +7,5 @@ pub mod SameNames
 pub mod Substituted
 pub mod TilersOf
 pub mod Wired
+pub mod PairLinks
+pub mod NewPair

@@ -9,3 +9,4 @@ pub mod TilersOf
 pub mod Wired
 pub mod PairLinks
 pub mod NewPair
+pub mod RulesKept

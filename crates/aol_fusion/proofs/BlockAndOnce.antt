@@ -1,5 +1,5 @@
 -- The rules of the repetition over one block hold, and those of one run.
-use Rattle.std.proofs.Common.{◌≡◌, ℕ, Bool, true, false, ◌&&◌, List, [], ◌∷◌, ◌++◌, map, filter, Option, Some, None, unwrap_or, is_some, sym, ◌∙◌, ap, refl, arith}
+use Rattle.std.proofs.Common.{◌≡◌, ℕ, Bool, true, List, [], ◌∷◌, ◌++◌, map, Option, Some, None, unwrap_or, is_some, sym, ◌∙◌, ap, refl}
 use Rattle.std.specs.List.{IsAmong, list_all}
 use Rattle.aol_shape.specs.Lists.{same}
 use Rattle.aol_tiler.specs.Tiler.{fits, inner_of}
@@ -17,10 +17,10 @@ use Rattle.aol_flat.proofs.Once.{all_at, found_among}
 use Rattle.aol_flat.proofs.Sites.{find-passes}
 use Rattle.aol_change.proofs.TilerForms.{inner_fits}
 use Rattle.aol_fusion_parts.specs.Joined.{pick_to, is_source, fits_block, pick_fits}
-use Rattle.aol_fusion_parts.specs.Made.{over_space, once_port, once_shape, once_tiling, source_shape, block_of_first, once_of_second}
+use Rattle.aol_fusion_parts.specs.Made.{over_space, once_port, once_shape, once_tiling, block_of_first, once_of_second}
 use Rattle.aol_fusion_parts.specs.Ports.{sources, tiled_ports}
 use Rattle.aol_fusion.proofs.Fresh.{AreFresh, names_of, fresh_parts, fresh_own, fewer_fresh}
-use Rattle.aol_fusion.proofs.SameNames.{IsMaker, HasOwnNames, own_wired, filter_among}
+use Rattle.aol_fusion.proofs.SameNames.{IsMaker, own_wired, filter_among}
 use Rattle.aol_fusion.proofs.Wired.{wired_holds}
 
 map_same : {X : Type 0} (xs : List X) → xs ≡ map (λ x. x) xs

@@ -1,6 +1,6 @@
 -- Names that differ from all earlier ones.
-use Rattle.std.proofs.Common.{◌≡◌, ℕ, zero, suc, ◌+◌, ◌≤◌, Bool, true, false, cond, not, ◌&&◌, ◌||◌, ◌==◌, List, [], ◌∷◌, ◌++◌, length, map, filter, find, Option, Some, None, is_some, is_none, option_map, sym, ◌∙◌, ap, refl, arith, subst}
-use Rattle.std.specs.List.{IsAmong, list_any, count_by}
+use Rattle.std.proofs.Common.{◌≡◌, ℕ, zero, suc, ◌+◌, Bool, true, false, cond, not, ◌||◌, List, [], ◌∷◌, ◌++◌, map, filter, find, Some, is_none, option_map, sym, ◌∙◌, ap, refl, arith, subst}
+use Rattle.std.specs.List.{IsAmong, count_by}
 use Rattle.std.proofs.lemmas.List.{append-nil, append_assoc, map-append}
 use Rattle.std.proofs.lemmas.List.Folds.{list_any-append}
 use Rattle.std.proofs.lemmas.List.Sums.{sum_by-cons}
@@ -13,7 +13,7 @@ use Rattle.aol_model_types.specs.declared.task.Task.{Task}
 use Rattle.aol_model_types.specs.declared.task.Task.TheVariants as tasks
 use Rattle.aol_model_types.specs.declared.place.Key.TheVariants.{KIn, KOut, KName}
 use Rattle.aol_model_types.specs.Places.{to_key, to_index}
-use Rattle.aol_model_types.specs.Rules.{Check, check, each, each_from, port_checks, output_checks, kind_checks, is_new_port, port_shape, inputs_of, outputs_of}
+use Rattle.aol_model_types.specs.Rules.{each, each_from, port_checks, output_checks, kind_checks, is_new_port, port_shape, inputs_of, outputs_of}
 use Rattle.aol_flat.proofs.Checked.{of_compound, of_repeated}
 use Rattle.aol_flat.proofs.Different.{Hold, hold-parts}
 use Rattle.aol_flat.proofs.Names.{both-true, same-self, same-equal}
@@ -60,8 +60,7 @@ ports_fresh front earlier [] at k h = tt
 ports_fresh front earlier (p ∷ ports) at k h =
     let parts = hold-parts (port_checks front (to_index at k) earlier p) (each_from (port_checks front) at (k + 1) (earlier ++ p ∷ []) ports) h in
     let here : is_none (port_shape (front ++ earlier) p.name) ≡ true = (both-true (is_new_port (front ++ earlier) p) true parts.0).0 in
-    let P : List (List ℕ) → Type 0 = λ seen. AreFresh seen (names_of ports) in
-    (
+    let P : List (List ℕ) → Type 0 = λ seen. AreFresh seen (names_of ports) in (
       not_false (is_taken (names_of (front ++ earlier)) p.name) (sym (shape_taken (front ++ earlier) p.name) ∙ here),
       subst P (ap names_of (sym (append_assoc front earlier (p ∷ []))) ∙ map-append (λ (q : Port). q.name) (front ++ earlier) (p ∷ [])) (ports_fresh front (earlier ++ p ∷ []) ports at (k + 1) parts.1),
     )
@@ -85,8 +84,7 @@ outs_fresh ins earlier (o ∷ outs) e at k is h =
     let here : is_none (port_shape (ins ++ map port earlier) o.port.name) ≡ true = ap (λ i. is_none (port_shape (i ++ map port earlier) o.port.name)) (sym is) ∙ (both-true (is_new_port (e.ins ++ map port earlier) o.port) _ parts.0).0 in
     let P : List (List ℕ) → Type 0 = λ seen. AreFresh seen (names_of (map port outs)) in
     let more : names_of (ins ++ map port (earlier ++ o ∷ [])) ≡ names_of (ins ++ map port earlier) ++ o.port.name ∷ [] =
-    ap (λ ps. names_of (ins ++ ps)) (map-append port earlier (o ∷ [])) ∙ (ap names_of (sym (append_assoc ins (map port earlier) (o.port ∷ []))) ∙ map-append (λ (q : Port). q.name) (ins ++ map port earlier) (o.port ∷ [])) in
-    (
+    ap (λ ps. names_of (ins ++ ps)) (map-append port earlier (o ∷ [])) ∙ (ap names_of (sym (append_assoc ins (map port earlier) (o.port ∷ []))) ∙ map-append (λ (q : Port). q.name) (ins ++ map port earlier) (o.port ∷ [])) in (
       not_false (is_taken (names_of (ins ++ map port earlier)) o.port.name) (sym (shape_taken (ins ++ map port earlier) o.port.name) ∙ here),
       subst P more (outs_fresh ins (earlier ++ o ∷ []) outs e at (k + 1) is parts.1),
     )

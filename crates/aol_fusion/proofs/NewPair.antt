@@ -1,32 +1,29 @@
 -- The rules of the block and the run, side by side, hold.
-use Rattle.std.proofs.Common.{◌≡◌, ℕ, zero, suc, ◌+◌, ◌<◌, ◌≤◌, ◌^◌, Bool, true, false, not, ◌&&◌, ◌||◌, ◌==◌, List, [], ◌∷◌, ◌++◌, map, length, codes, Option, Some, None, is_some, unwrap_or, option_map, sym, ◌∙◌, ap, refl, arith, subst, ◌⊎◌, inl, inr}
+use Rattle.std.proofs.Common.{◌≡◌, ℕ, zero, suc, ◌+◌, ◌<◌, ◌^◌, true, false, ◌&&◌, ◌||◌, ◌==◌, List, [], ◌∷◌, ◌++◌, length, codes, Option, Some, None, is_some, unwrap_or, option_map, sym, ◌∙◌, ap, refl, arith, subst, ◌⊎◌, inl, inr}
 use Rattle.std.specs.List.{IsAmong, list_all, count_by}
-use Rattle.std.proofs.lemmas.Bool.{eq-eqb}
-use Rattle.std.proofs.lemmas.List.{append-nil, map-append, length-append}
-use Rattle.aol_shape.specs.Lists.{same}
+use Rattle.std.proofs.lemmas.List.{append-nil, length-append}
 use Rattle.aol_expr_tree.specs.declared.port.Port.{Port}
 use Rattle.aol_model_types.specs.declared.job.Pick.{Pick}
-use Rattle.aol_model_types.specs.declared.place.Key.TheVariants.{KIn, KOut, KParts, KLinks, KReshapes}
+use Rattle.aol_model_types.specs.declared.place.Key.TheVariants.{KIn, KOut, KLinks}
 use Rattle.aol_model_types.specs.declared.place.PlaceStep.{PlaceStep}
 use Rattle.aol_model_types.specs.declared.task.Compound.{Compound}
-use Rattle.aol_model_types.specs.declared.task.Copied.{Copied}
 use Rattle.aol_model_types.specs.declared.task.Hook.{Hook}
 use Rattle.aol_model_types.specs.declared.task.Plain.{Plain}
 use Rattle.aol_model_types.specs.declared.task.Task.{Task}
 use Rattle.aol_model_types.specs.Places.{to_key}
-use Rattle.aol_model_types.specs.Rules.{each, task_named, inputs_of, outputs_of, inputs_named, port_shape, port_checks, part_checks, plain_checks, copied_checks, from_shape, to_shape, same_shapes, gives, takes, meets_part, joins_equal, hands_up_once, is_fed, part_is_fed, output_is_fed, same_hook, is_earlier_task}
+use Rattle.aol_model_types.specs.Rules.{each, task_named, inputs_of, outputs_of, inputs_named, port_shape, plain_checks, from_shape, to_shape, same_shapes, gives, takes, meets_part, joins_equal, hands_up_once, is_fed, output_is_fed, is_earlier_task}
 use Rattle.aol_flat.proofs.Among.{among_append}
-use Rattle.aol_flat.proofs.Checked.{HoldsOfCompound, fed_checks, output_fed_checks}
+use Rattle.aol_flat.proofs.Checked.{HoldsOfCompound, output_fed_checks}
 use Rattle.aol_flat.proofs.Different.{Hold}
 use Rattle.aol_flat.proofs.Inside.{among_left, among_right}
 use Rattle.aol_flat.proofs.Names.{same-self}
 use Rattle.aol_flat.proofs.Truth.{both}
-use Rattle.aol_change.proofs.Checks.{each-all, hold-both}
+use Rattle.aol_change.proofs.Checks.{each-all}
 use Rattle.aol_change.proofs.KindChecks.{hold-one}
 use Rattle.aol_change.specs.declared.tasks.Side.TheVariants.{Inputs, Outputs}
 use Rattle.aol_fusion_parts.specs.declared.ports.FusedNames.{FusedNames}
 use Rattle.aol_fusion_parts.specs.Joined.{pick_to}
-use Rattle.aol_fusion_parts.specs.Made.{own_end, part_end, links_in, links_out, pick_link, pick_links, pair_links, pair_of_both}
+use Rattle.aol_fusion_parts.specs.Made.{own_end, part_end, links_in, links_out, pick_link, pick_links, pair_of_both}
 use Rattle.aol_fusion_parts.specs.Ports.{port_name, renamed}
 use Rattle.aol_fusion.proofs.Fresh.{AreFresh, names_of, fresh_own, fresh_parts, fresh_ports, once_there, name_listed}
 use Rattle.aol_fusion.proofs.PairLinks.{leads_to, named, count_both, count_in, none_in, count_out, none_out, count_pick, none_pick, up_all, up_once}

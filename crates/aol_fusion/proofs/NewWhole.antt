@@ -1,9 +1,8 @@
 -- The rules of the fused repetition hold.
-use Rattle.std.proofs.Common.{◌≡◌, ℕ, ◌+◌, ◌<◌, ◌≤◌, ◌^◌, Bool, true, false, not, List, [], ◌∷◌, ◌++◌, length, map, filter, find, Option, Some, None, is_some, unwrap_or, option_map, sym, ◌∙◌, ap, refl, arith, subst, ◌⊎◌, inl, inr}
+use Rattle.std.proofs.Common.{◌≡◌, ℕ, ◌+◌, ◌<◌, ◌^◌, true, false, not, List, [], ◌∷◌, ◌++◌, length, map, find, Option, Some, None, is_some, unwrap_or, option_map, sym, ◌∙◌, ap, refl, arith, subst, ◌⊎◌, inl, inr}
 use Rattle.std.specs.List.{IsAmong}
 use Rattle.std.proofs.lemmas.List.{map-append, length-map, length-append}
 use Rattle.aol_shape.specs.Lists.{same}
-use Rattle.aol_tiler.specs.Matrices.{TilerOf}
 use Rattle.aol_tiler.specs.Tiler.{fits, substituted}
 use Rattle.aol_expr_tree.specs.declared.port.Port.{Port}
 use Rattle.aol_model_types.specs.declared.job.FuseArgs.{FuseArgs}
@@ -14,21 +13,19 @@ use Rattle.aol_model_types.specs.declared.task.Task.{Task}
 use Rattle.aol_model_types.specs.declared.task.TilerOn.{TilerOn}
 use Rattle.aol_model_types.specs.Rules.{task_named, inputs_of, outputs_of, port_shape}
 use Rattle.aol_flat.specs.Home.{tiler_at}
-use Rattle.aol_flat.proofs.Among.{among_append, among_map, map_among, among_get, get_among}
+use Rattle.aol_flat.proofs.Among.{among_append, map_among}
 use Rattle.aol_flat.proofs.Checked.{HoldsOfRepeated}
 use Rattle.aol_flat.proofs.Find.{find_filtered}
-use Rattle.aol_flat.proofs.Inside.{among_left, among_right}
-use Rattle.aol_flat.proofs.Names.{same-equal, same-self}
+use Rattle.aol_flat.proofs.Names.{same-equal}
 use Rattle.aol_flat.proofs.Sites.{find-passes}
 use Rattle.aol_flat.proofs.Shapes.{shape_left, shape_right}
 use Rattle.aol_change.specs.Change.{is_taken}
-use Rattle.aol_change.specs.declared.tasks.Side.{Side}
 use Rattle.aol_change.specs.declared.tasks.Side.TheVariants.{Inputs, Outputs}
 use Rattle.aol_fusion_parts.specs.Joined.{is_joined, is_picked}
 use Rattle.aol_fusion_parts.specs.Made.{over_space}
-use Rattle.aol_fusion_parts.specs.Ports.{port_name, renamed, name_among, port_number, tiled_ports, unpicked_ports, unjoined_ports}
+use Rattle.aol_fusion_parts.specs.Ports.{renamed, name_among, tiled_ports, unpicked_ports, unjoined_ports}
 use Rattle.aol_fusion_parts.specs.Whole.{fused_repetition, placed_tilers, moved_tilers}
-use Rattle.aol_fusion.proofs.Fresh.{AreFresh, names_of, fresh_own, fresh_parts, name_listed, still_taken}
+use Rattle.aol_fusion.proofs.Fresh.{AreFresh, names_of, fresh_own, fresh_parts, name_listed}
 use Rattle.aol_fusion.proofs.NewWires.{new_wires, placed_are, moved_are, new_inners, each_wire, wire_of}
 use Rattle.aol_fusion.proofs.Renamed.{both_renamed_fresh, renamed_both, renamed_shape, renamed_member}
 use Rattle.aol_fusion.proofs.SameNames.{map_both, filter_among, among_filter}

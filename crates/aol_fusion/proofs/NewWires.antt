@@ -1,19 +1,14 @@
 -- The rules of the fused repetition hold.
-use Rattle.std.proofs.Common.{◌≡◌, ℕ, zero, suc, ◌+◌, ◌<◌, ◌≤◌, ◌^◌, Bool, true, false, cond, not, List, [], ◌∷◌, ◌++◌, length, map, filter, Option, Some, None, is_some, unwrap_or, option_map, sym, ◌∙◌, ap, refl, arith, subst, ◌⊎◌, inl, inr}
-use Rattle.std.specs.List.{IsAmong, list_all}
-use Rattle.std.proofs.lemmas.List.{map-append, length-append, append-nil}
-use Rattle.aol_shape.specs.Lists.{same}
+use Rattle.std.proofs.Common.{◌≡◌, ℕ, zero, suc, ◌+◌, true, List, [], ◌∷◌, ◌++◌, map, Option, Some, None, is_some, sym, ◌∙◌, ap, refl, arith, subst}
+use Rattle.std.specs.List.{IsAmong}
 use Rattle.aol_tiler.specs.Matrices.{TilerOf}
-use Rattle.aol_tiler.specs.Tiler.{fits, substituted}
+use Rattle.aol_tiler.specs.Tiler.{substituted}
 use Rattle.aol_expr_tree.specs.declared.port.Port.{Port}
 use Rattle.aol_model_types.specs.declared.task.Repeated.{Repeated}
 use Rattle.aol_model_types.specs.declared.task.TilerOn.{TilerOn}
-use Rattle.aol_model_types.specs.Rules.{port_shape}
 use Rattle.aol_flat.specs.Home.{tiler_at}
-use Rattle.aol_flat.proofs.Among.{among_append}
 use Rattle.aol_change.specs.declared.tasks.Side.{Side}
-use Rattle.aol_change.specs.declared.tasks.Side.TheVariants.{Inputs, Outputs}
-use Rattle.aol_fusion_parts.specs.Made.{over_space}
+use Rattle.aol_change.specs.declared.tasks.Side.TheVariants.{Inputs}
 use Rattle.aol_fusion_parts.specs.Ports.{port_name, renamed, name_among}
 use Rattle.aol_fusion_parts.specs.Whole.{moved_tiler, moved_tilers, placed_tiler, placed_tilers}
 use Rattle.aol_fusion.proofs.Wired.{Wire, tiler_of, inner_of_wire}

@@ -1,5 +1,5 @@
 -- The links of the pair: how many lead to each end, and which lead up.
-use Rattle.std.proofs.Common.{◌≡◌, ℕ, suc, ◌+◌, Bool, true, false, cond, not, ◌&&◌, ◌||◌, List, [], ◌∷◌, ◌++◌, map, length, flat_map, codes, Option, Some, None, is_some, is_none, sym, ◌∙◌, ap, refl, arith, subst}
+use Rattle.std.proofs.Common.{◌≡◌, ℕ, suc, ◌+◌, Bool, true, false, cond, not, ◌&&◌, ◌||◌, List, [], ◌∷◌, ◌++◌, length, flat_map, codes, Option, Some, None, is_some, sym, ◌∙◌, ap, refl, arith, subst}
 use Rattle.std.specs.List.{IsAmong, list_any, count_by}
 use Rattle.std.proofs.lemmas.List.{append_assoc}
 use Rattle.std.proofs.lemmas.List.Sums.{sum_by-cons, sum_by-append}
@@ -15,7 +15,7 @@ use Rattle.aol_change.specs.declared.tasks.Side.TheVariants.{Inputs, Outputs}
 use Rattle.aol_fusion_parts.specs.Joined.{pick_to}
 use Rattle.aol_fusion_parts.specs.Made.{own_end, part_end, links_in, links_out, pick_link, pick_links, pair_links}
 use Rattle.aol_fusion_parts.specs.Ports.{port_name, renamed}
-use Rattle.aol_fusion.proofs.Fresh.{AreFresh, names_of, fresh_before, not_either}
+use Rattle.aol_fusion.proofs.Fresh.{AreFresh, names_of, fresh_before}
 
 -- ---- counts
 

@@ -1,6 +1,6 @@
 -- Ports with numbers for names.
-use Rattle.std.proofs.Common.{◌≡◌, ℕ, zero, suc, ◌+◌, ◌<◌, ◌≤◌, ◌^◌, Bool, true, false, cond, not, ◌||◌, List, [], ◌∷◌, ◌++◌, length, map, find, codes, decimal, Option, Some, None, option_map, sym, ◌∙◌, ap, refl, arith, subst}
-use Rattle.std.specs.List.{IsAmong, list_any, position_or_len}
+use Rattle.std.proofs.Common.{◌≡◌, ℕ, zero, suc, ◌+◌, ◌<◌, ◌≤◌, ◌^◌, Bool, true, false, cond, not, ◌||◌, List, [], ◌∷◌, ◌++◌, length, find, decimal, Some, option_map, sym, ◌∙◌, ap, refl, arith}
+use Rattle.std.specs.List.{IsAmong}
 use Rattle.std.proofs.lemmas.Fmt.{decimal_injective}
 use Rattle.std.proofs.lemmas.List.Folds.{list_any-append}
 use Rattle.aol_shape.specs.Lists.{same}
@@ -118,11 +118,11 @@ taken_differs ns m n s f t u = by_test (same m n) refl
 pub renamed_member : (side : Side) (k : ℕ) (ports : List Port) (y : Port) (seen : List (List ℕ)) → AreFresh seen (names_of ports) → IsAmong (renamed side k ports) y
     → (p : Port) × IsAmong ports p × (y.name ≡ port_name side (k + port_number ports p.name))
 renamed_member side k [] y seen h a = absurd (omega (arith, a.1.0))
-renamed_member side k (p ∷ ports) y seen h (zero, a) =
-    (
-      p, (0, (omega arith, refl)),
-      ap (λ (q : Port). q.name) a.1 ∙ ap (port_name side) (let e : k ≡ k + port_number (p ∷ ports) p.name = (let z : port_number (p ∷ ports) p.name ≡ 0 = number_here p ports p.name (same-self p.name) in omega (arith, z)) in e),
-    )
+renamed_member side k (p ∷ ports) y seen h (zero, a) = (
+  p,
+  (0, (omega arith, refl)),
+  ap (λ (q : Port). q.name) a.1 ∙ ap (port_name side) (let e : k ≡ k + port_number (p ∷ ports) p.name = (let z : port_number (p ∷ ports) p.name ≡ 0 = number_here p ports p.name (same-self p.name) in omega (arith, z)) in e),
+)
 renamed_member side k (p ∷ ports) y seen h (suc i, a) =
     let r = renamed_member side (k + 1) ports y (seen ++ p.name ∷ []) h.1 (i, (omega (arith, a.0), a.1)) in
     (r.0, (suc r.1.0, (omega (arith, r.1.1.0), r.1.1.1)), r.2 ∙ ap (port_name side) (later r.0 r.1))

@@ -1,8 +1,5 @@
 -- The new repetitions of a fusion keep the rules.
-use Rattle.std.proofs.Common.{◌≡◌, ℕ, ◌+◌, ◌<◌, ◌≤◌, ◌^◌, List, [], ◌++◌, map, filter, length, refl, arith}
-use Rattle.aol_expr_tree.specs.declared.port.Port.{Port}
-use Rattle.aol_model_types.specs.declared.job.FuseArgs.{FuseArgs}
-use Rattle.aol_model_types.specs.declared.task.Compound.{Compound}
+use Rattle.std.proofs.Common.{◌≤◌, [], ◌++◌, length, refl, arith}
 use Rattle.aol_model_types.specs.declared.task.Repeated.{Repeated}
 use Rattle.aol_model_types.specs.declared.task.Task.{Task}
 use Rattle.aol_model_types.specs.declared.task.Task.TheVariants as tasks

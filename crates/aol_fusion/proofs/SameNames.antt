@@ -1,9 +1,9 @@
 -- A repetition whose ports have the names of the inner ports: the repetition over a block, and one run.
-use Rattle.std.proofs.Common.{◌≡◌, ℕ, zero, suc, ◌+◌, Bool, true, false, cond, List, [], ◌∷◌, ◌++◌, map, filter, Some, sym, ◌∙◌, ap, refl, arith, subst}
+use Rattle.std.proofs.Common.{◌≡◌, ℕ, zero, suc, Bool, true, false, cond, List, [], ◌∷◌, ◌++◌, map, filter, Some, sym, ◌∙◌, ap, refl, arith, subst}
 use Rattle.std.specs.List.{IsAmong}
 use Rattle.std.proofs.lemmas.List.{map-append}
 use Rattle.aol_tiler.specs.Matrices.{TilerOf}
-use Rattle.aol_tiler.specs.Tiler.{fits, inner_of}
+use Rattle.aol_tiler.specs.Tiler.{fits}
 use Rattle.aol_expr_tree.specs.declared.port.Port.{Port}
 use Rattle.aol_model_types.specs.declared.task.Repeated.{Repeated}
 use Rattle.aol_model_types.specs.declared.task.Task.{Task}
@@ -11,7 +11,7 @@ use Rattle.aol_model_types.specs.declared.task.TilerOn.{TilerOn}
 use Rattle.aol_model_types.specs.Rules.{inputs_of, outputs_of, port_shape}
 use Rattle.aol_flat.proofs.Among.{among_map, map_among}
 use Rattle.aol_change.specs.Change.{is_taken}
-use Rattle.aol_fusion.proofs.Fresh.{AreFresh, names_of, both_fresh, fresh_parts, fresh_own, fewer_fresh, name_listed}
+use Rattle.aol_fusion.proofs.Fresh.{AreFresh, names_of, both_fresh, fresh_parts, fresh_own, name_listed}
 use Rattle.aol_fusion.proofs.Wired.{Wire, tiler_of, IsWiredBy, FitsOutside}
 
 -- ---- lists

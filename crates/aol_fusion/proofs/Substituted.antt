@@ -1,5 +1,5 @@
 -- A tiler at the repetitions that another gives fits where that one leads.
-use Rattle.std.proofs.Common.{◌≡◌, ℕ, ◌+◌, Bool, true, ◌==◌, ℤ, pos, List, [], ◌∷◌, ◌++◌, length, map, ◌∙◌, ap, refl, arith}
+use Rattle.std.proofs.Common.{◌≡◌, ℕ, true, ◌==◌, ℤ, pos, List, [], ◌∷◌, ◌++◌, length, map, ◌∙◌, refl, arith}
 use Rattle.std.specs.List.{list_all}
 use Rattle.std.proofs.lemmas.Bool.{eq-eqb}
 use Rattle.std.proofs.lemmas.List.{length-append, length-map}

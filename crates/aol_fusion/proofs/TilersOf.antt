@@ -1,5 +1,5 @@
 -- The tilers of a repetition without links that keeps the rules, by their inner ports.
-use Rattle.std.proofs.Common.{◌≡◌, ℕ, zero, suc, ◌+◌, ◌≤◌, Bool, true, false, cond, ◌&&◌, ◌||◌, ◌==◌, List, [], ◌∷◌, ◌++◌, find, Option, Some, None, is_some, unwrap_or, option_map, sym, ◌∙◌, ap, refl, arith, subst, ◌⊎◌, inl, inr}
+use Rattle.std.proofs.Common.{◌≡◌, ℕ, suc, ◌≤◌, Bool, true, false, ◌||◌, List, [], ◌∷◌, ◌++◌, Option, Some, None, is_some, unwrap_or, option_map, sym, ◌∙◌, ap, refl, arith, ◌⊎◌, inl, inr}
 use Rattle.std.specs.List.{IsAmong, list_any, count_by}
 use Rattle.aol_shape.specs.Lists.{same}
 use Rattle.aol_tiler.specs.Tiler.{fits}
@@ -14,7 +14,7 @@ use Rattle.aol_model_types.specs.Places.{to_key}
 use Rattle.aol_model_types.specs.Rules.{task_named, inputs_of, outputs_of, inputs_named, outputs_named, port_shape, fits_in, is_tiled}
 use Rattle.aol_flat.specs.Home.{tiler_at}
 use Rattle.aol_flat.proofs.Checked.{HoldsOfRepeated, member, tiled_checks, named_port}
-use Rattle.aol_flat.proofs.Names.{both-true, same-equal, same-self}
+use Rattle.aol_flat.proofs.Names.{both-true, same-equal}
 use Rattle.aol_flat.proofs.Once.{found_among, counted_found}
 use Rattle.aol_flat.proofs.Shapes.{shape_left, shape_right}
 use Rattle.aol_flat.proofs.Sites.{find-passes}

@@ -1,5 +1,5 @@
 -- The rules of a repetition hold whose tilers are known by its inner ports.
-use Rattle.std.proofs.Common.{◌≡◌, ℕ, zero, suc, ◌+◌, Bool, true, false, cond, not, ◌&&◌, ◌||◌, ◌==◌, List, [], ◌∷◌, ◌++◌, map, Option, Some, None, is_some, is_none, unwrap_or, option_map, sym, ◌∙◌, ap, refl, arith, subst, ◌⊎◌, inl, inr}
+use Rattle.std.proofs.Common.{◌≡◌, ℕ, zero, suc, ◌+◌, Bool, true, false, cond, not, ◌&&◌, ◌||◌, List, [], ◌∷◌, ◌++◌, map, Option, Some, None, is_some, is_none, unwrap_or, option_map, sym, ◌∙◌, ap, refl, arith, subst, ◌⊎◌, inl, inr}
 use Rattle.std.specs.List.{IsAmong, list_any, list_all, count_by}
 use Rattle.std.proofs.lemmas.Bool.{eq-eqb}
 use Rattle.std.proofs.lemmas.List.{append-nil, map-append}
@@ -15,11 +15,11 @@ use Rattle.aol_model_types.specs.declared.task.Repeated.{Repeated}
 use Rattle.aol_model_types.specs.declared.task.Task.{Task}
 use Rattle.aol_model_types.specs.declared.task.TilerOn.{TilerOn}
 use Rattle.aol_model_types.specs.Places.{to_key}
-use Rattle.aol_model_types.specs.Rules.{each, task_named, inputs_of, outputs_of, inputs_named, outputs_named, port_shape, port_checks, tiler_checks, interlink_checks, is_on_ports, tiles_output_once, tiler_fits, fits_in, inner_is_fed, all_inner_fed, is_tiled}
-use Rattle.aol_flat.proofs.Among.{among_append, among_map, map_among}
+use Rattle.aol_model_types.specs.Rules.{each, task_named, inputs_of, outputs_of, inputs_named, outputs_named, port_shape, tiler_checks, interlink_checks, is_on_ports, tiles_output_once, tiler_fits, fits_in, inner_is_fed, all_inner_fed, is_tiled}
+use Rattle.aol_flat.proofs.Among.{among_append, map_among}
 use Rattle.aol_flat.proofs.Checked.{HoldsOfRepeated, tiled_checks}
 use Rattle.aol_flat.proofs.Different.{Hold}
-use Rattle.aol_flat.proofs.Inside.{among_left, among_right}
+use Rattle.aol_flat.proofs.Inside.{among_right}
 use Rattle.aol_flat.proofs.Names.{same-self}
 use Rattle.aol_flat.proofs.Shapes.{shape_left, shape_right}
 use Rattle.aol_flat.proofs.Truth.{both}

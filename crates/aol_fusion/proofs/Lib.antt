@@ -10,3 +10,4 @@ pub mod Wired
 pub mod PairLinks
 pub mod NewPair
 pub mod RulesKept
+pub mod PairKept

@@ -27,7 +27,7 @@ module _ (t : Repeated) (u : Task) (old : IsOld t u) where
   old_holds : HoldsOfRepeated old.before [] t
   old_holds = of_repeated old.before [] t (old.rules [])
 
-  old_inner : AreFresh [] (names_of (inputs_of u) ++ names_of (outputs_of u))
+  pub old_inner : AreFresh [] (names_of (inputs_of u) ++ names_of (outputs_of u))
   old_inner = task_fresh old.earlier [] u (old.inner [])
 
   old_own : AreFresh [] (names_of t.ins ++ names_of t.outs)

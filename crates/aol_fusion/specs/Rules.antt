@@ -12,7 +12,7 @@ use Rattle.aol_model_types.specs.declared.task.Task.{Task}
 use Rattle.aol_model_types.specs.declared.task.Task.TheVariants as tasks
 use Rattle.aol_model_types.specs.Rules.{kind_checks, task_named, inputs_of, outputs_of}
 use Rattle.aol_fusion_parts.specs.declared.ports.FusedNames.{FusedNames}
-use Rattle.aol_fusion_parts.specs.Joined.{pick_fits}
+use Rattle.aol_fusion_parts.specs.Joined.{is_picked_once, pick_fits}
 use Rattle.aol_fusion_parts.specs.Made.{over_space, block_of_first, once_of_second, pair_of_both}
 use Rattle.aol_fusion_parts.specs.Ports.{sources, tiled_ports, picked_ports, unpicked_ports, unjoined_ports}
 use Rattle.aol_fusion_parts.specs.Whole.{fused_repetition}
@@ -42,6 +42,17 @@ OnceKeepsRules =
     (ts : List Task) (two : Repeated) (v : Task) (name : List ℕ) (args : FuseArgs) (outs : List Port) → IsOld two v → task_named ts two.task ≡ Some v
     → list_all (pick_fits args outs (inputs_of v)) args.picks ≡ true
     → KeepsRules ts (tasks.Repeated (once_of_second name two.task args.block outs args.picks (inputs_of v) (tiled_ports two (outputs_of v))))
+
+-- so do both side by side, where each picked input has one pick and the picks' tilers fit
+abbrev pub PairKeepsRules : Type 0
+PairKeepsRules =
+    (ts : List Task) (args : FuseArgs) (c : Compound) (one two : Repeated) (u v : Task) (n : FusedNames) → IsOld one u → IsOld two v
+    → list_all (is_picked_once args c two) (inputs_of v) ≡ true → list_all (pick_fits args (outputs_of u) (inputs_of v)) args.picks ≡ true
+    → length (inputs_of u) + length (inputs_of v) < 2 ^ 64 → length (outputs_of v) < 2 ^ 64
+    → task_named ts n.block ≡ Some (tasks.Repeated (block_of_first n.block args.block one.task (inputs_of u) (sources args.picks (outputs_of u))))
+    → task_named ts n.once ≡ Some (tasks.Repeated (once_of_second n.once two.task args.block (outputs_of u) args.picks (inputs_of v) (tiled_ports two (outputs_of v))))
+    → KeepsRules ts
+    (tasks.Compound (pair_of_both n args.picks (map (over_space args.block) (inputs_of u)) (picked_ports args c two (inputs_of v)) (unpicked_ports args c two (inputs_of v)) (tiled_ports two (outputs_of v))))
 
 -- so does the fused repetition, where the proposed tiler fits
 abbrev pub WholeKeepsRules : Type 0

@@ -25,10 +25,10 @@ use Rattle.aol_fusion_parts.specs.declared.ports.FusedNames.{FusedNames}
 use Rattle.aol_fusion_parts.specs.Joined.{pick_to}
 use Rattle.aol_fusion_parts.specs.Made.{own_end, part_end, links_in, links_out, pick_link, pick_links, pair_of_both}
 use Rattle.aol_fusion_parts.specs.Ports.{port_name, renamed}
-use Rattle.aol_fusion.proofs.Fresh.{AreFresh, names_of, fresh_own, fresh_parts, fresh_ports, once_there, name_listed}
-use Rattle.aol_fusion.proofs.PairLinks.{leads_to, named, count_both, count_in, none_in, count_out, none_out, count_pick, none_pick, up_all, up_once}
-use Rattle.aol_fusion.proofs.Renamed.{both_renamed_fresh, renamed_both}
-use Rattle.aol_fusion.proofs.Wired.{among_split}
+use Rattle.aol_fusion_laws.proofs.Fresh.{AreFresh, names_of, fresh_own, fresh_parts, fresh_ports, once_there, name_listed}
+use Rattle.aol_fusion_laws.proofs.PairLinks.{leads_to, named, count_both, count_in, none_in, count_out, none_out, count_pick, none_pick, up_all, up_once}
+use Rattle.aol_fusion_laws.proofs.Renamed.{both_renamed_fresh, renamed_both}
+use Rattle.aol_fusion_laws.proofs.Wired.{among_split}
 
 -- ---- what stands in the lists of links
 

@@ -11,8 +11,8 @@ use Rattle.aol_model_types.specs.declared.task.TilerOn.{TilerOn}
 use Rattle.aol_model_types.specs.Rules.{inputs_of, outputs_of, port_shape}
 use Rattle.aol_flat.proofs.Among.{among_map, map_among}
 use Rattle.aol_change.specs.Change.{is_taken}
-use Rattle.aol_fusion.proofs.Fresh.{AreFresh, names_of, both_fresh, fresh_parts, fresh_own, name_listed}
-use Rattle.aol_fusion.proofs.Wired.{Wire, tiler_of, IsWiredBy, FitsOutside}
+use Rattle.aol_fusion_laws.proofs.Fresh.{AreFresh, names_of, both_fresh, fresh_parts, fresh_own, name_listed}
+use Rattle.aol_fusion_laws.proofs.Wired.{Wire, tiler_of, IsWiredBy, FitsOutside}
 
 -- ---- lists
 

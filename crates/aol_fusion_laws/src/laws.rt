@@ -1,4 +1,4 @@
-ghost use Rattle.aol_fusion.specs.Rules.{BlockKeepsRules, OnceKeepsRules, PairKeepsRules, WholeKeepsRules};
+ghost use Rattle.aol_fusion_laws.specs.Rules.{BlockKeepsRules, OnceKeepsRules, PairKeepsRules, WholeKeepsRules};
 
 /// A law: the repetition over one block keeps the rules.
 pub fn block_keeps_rules()

@@ -25,13 +25,13 @@ use Rattle.aol_fusion_parts.specs.Joined.{is_joined, is_picked}
 use Rattle.aol_fusion_parts.specs.Made.{over_space}
 use Rattle.aol_fusion_parts.specs.Ports.{renamed, name_among, tiled_ports, unpicked_ports, unjoined_ports}
 use Rattle.aol_fusion_parts.specs.Whole.{fused_repetition, placed_tilers, moved_tilers}
-use Rattle.aol_fusion.proofs.Fresh.{AreFresh, names_of, fresh_own, fresh_parts, name_listed}
-use Rattle.aol_fusion.proofs.NewWires.{new_wires, placed_are, moved_are, new_inners, each_wire, wire_of}
-use Rattle.aol_fusion.proofs.Renamed.{both_renamed_fresh, renamed_both, renamed_shape, renamed_member}
-use Rattle.aol_fusion.proofs.SameNames.{map_both, filter_among, among_filter}
-use Rattle.aol_fusion.proofs.Substituted.{substituted_fits}
-use Rattle.aol_fusion.proofs.TilersOf.{FitsSide}
-use Rattle.aol_fusion.proofs.Wired.{Wire, tiler_of, inner_of_wire, FitsOutside, IsWiredBy, wired_holds, sides_differ}
+use Rattle.aol_fusion_laws.proofs.Fresh.{AreFresh, names_of, fresh_own, fresh_parts, name_listed}
+use Rattle.aol_fusion_laws.proofs.NewWires.{new_wires, placed_are, moved_are, new_inners, each_wire, wire_of}
+use Rattle.aol_fusion_laws.proofs.Renamed.{both_renamed_fresh, renamed_both, renamed_shape, renamed_member}
+use Rattle.aol_fusion_laws.proofs.SameNames.{map_both, filter_among, among_filter}
+use Rattle.aol_fusion_laws.proofs.Substituted.{substituted_fits}
+use Rattle.aol_fusion_laws.proofs.TilersOf.{FitsSide}
+use Rattle.aol_fusion_laws.proofs.Wired.{Wire, tiler_of, inner_of_wire, FitsOutside, IsWiredBy, wired_holds, sides_differ}
 
 -- what is known of the old repetitions: their tilers by the inner ports, and that there are few of all ports
 pub record OldTilers (args : FuseArgs) (c : Compound) (one two : Repeated) (u v : Task) : Type 0 where

@@ -19,8 +19,8 @@ use Rattle.aol_flat.proofs.Once.{found_among, counted_found}
 use Rattle.aol_flat.proofs.Shapes.{shape_left, shape_right}
 use Rattle.aol_flat.proofs.Sites.{find-passes}
 use Rattle.aol_flat.proofs.TilerRules.{JoinsPorts, sides_of, tiled, fed_once, only_tiler}
-use Rattle.aol_fusion.proofs.Fresh.{AreFresh, names_of, fresh_parts, fresh_own}
-use Rattle.aol_fusion.proofs.Wired.{sides_differ}
+use Rattle.aol_fusion_laws.proofs.Fresh.{AreFresh, names_of, fresh_parts, fresh_own}
+use Rattle.aol_fusion_laws.proofs.Wired.{sides_differ}
 
 -- what a tiler on an inner port says: it is on a port outside that it fits with the space and the inner port
 pub record FitsSide (t : Repeated) (outer : List Port) (o : TilerOn) (p : Port) : Type 0 where

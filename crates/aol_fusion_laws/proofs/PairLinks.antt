@@ -15,7 +15,7 @@ use Rattle.aol_change.specs.declared.tasks.Side.TheVariants.{Inputs, Outputs}
 use Rattle.aol_fusion_parts.specs.Joined.{pick_to}
 use Rattle.aol_fusion_parts.specs.Made.{own_end, part_end, links_in, links_out, pick_link, pick_links, pair_links}
 use Rattle.aol_fusion_parts.specs.Ports.{port_name, renamed}
-use Rattle.aol_fusion.proofs.Fresh.{AreFresh, names_of, fresh_before}
+use Rattle.aol_fusion_laws.proofs.Fresh.{AreFresh, names_of, fresh_before}
 
 -- ---- counts
 

@@ -11,7 +11,7 @@ use Rattle.aol_change.specs.Change.{is_taken}
 use Rattle.aol_change.specs.declared.tasks.Side.{Side}
 use Rattle.aol_change.specs.declared.tasks.Side.TheVariants.{Inputs, Outputs}
 use Rattle.aol_fusion_parts.specs.Ports.{port_name, renamed, port_number}
-use Rattle.aol_fusion.proofs.Fresh.{AreFresh, names_of, both_fresh, not_either, name_listed, taken_apart, taken_first}
+use Rattle.aol_fusion_laws.proofs.Fresh.{AreFresh, names_of, both_fresh, not_either, name_listed, taken_apart, taken_first}
 
 -- two numbers give two names
 number_of_name : (side : Side) (j k : ℕ) → j < 2 ^ 64 → k < 2 ^ 64 → port_name side j ≡ port_name side k → j ≡ k

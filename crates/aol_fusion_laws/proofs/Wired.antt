@@ -26,7 +26,7 @@ use Rattle.aol_flat.proofs.Truth.{both}
 use Rattle.aol_change.specs.Change.{is_taken}
 use Rattle.aol_change.proofs.Checks.{each-all}
 use Rattle.aol_change.proofs.KindChecks.{hold-one}
-use Rattle.aol_fusion.proofs.Fresh.{AreFresh, names_of, fresh_before, fresh_parts, fresh_ports, once_there, still_taken, shape_taken, taken_apart}
+use Rattle.aol_fusion_laws.proofs.Fresh.{AreFresh, names_of, fresh_before, fresh_parts, fresh_ports, once_there, still_taken, shape_taken, taken_apart}
 
 -- a tiler by its inner port
 pub record Wire : Type 0 where

@@ -8,11 +8,11 @@ use Rattle.aol_flat.proofs.Checked.{HoldsOfRepeated, of_repeated}
 use Rattle.aol_change.proofs.KindChecks.{to_repeated}
 use Rattle.aol_fusion_parts.specs.Ports.{unpicked_ports, unjoined_ports, tiled_ports}
 use Rattle.aol_fusion_parts.proofs.Placing.{filter_le}
-use Rattle.aol_fusion.specs.Rules.{IsOld, BlockKeepsRules, OnceKeepsRules, WholeKeepsRules}
-use Rattle.aol_fusion.proofs.BlockAndOnce.{block_holds, once_holds}
-use Rattle.aol_fusion.proofs.Fresh.{AreFresh, names_of, task_fresh}
-use Rattle.aol_fusion.proofs.NewWhole.{OldTilers, whole_holds}
-use Rattle.aol_fusion.proofs.TilersOf.{input_fit, input_tiled, output_fit, output_tiled}
+use Rattle.aol_fusion_laws.specs.Rules.{IsOld, BlockKeepsRules, OnceKeepsRules, WholeKeepsRules}
+use Rattle.aol_fusion_laws.proofs.BlockAndOnce.{block_holds, once_holds}
+use Rattle.aol_fusion_laws.proofs.Fresh.{AreFresh, names_of, task_fresh}
+use Rattle.aol_fusion_laws.proofs.NewWhole.{OldTilers, whole_holds}
+use Rattle.aol_fusion_laws.proofs.TilersOf.{input_fit, input_tiled, output_fit, output_tiled}
 
 pub block_keeps_rules : BlockKeepsRules
 block_keeps_rules ts one u name block picks old found at =

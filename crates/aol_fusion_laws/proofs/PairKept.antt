@@ -23,14 +23,14 @@ use Rattle.aol_fusion_parts.specs.Joined.{is_picked, is_picked_once, is_source, 
 use Rattle.aol_fusion_parts.specs.Made.{over_space, once_port, once_shape, block_of_first, once_of_second}
 use Rattle.aol_fusion_parts.specs.Ports.{sources, tiled_ports, picked_ports, unpicked_ports}
 use Rattle.aol_fusion_parts.proofs.Placing.{filter_le}
-use Rattle.aol_fusion.specs.Rules.{PairKeepsRules}
-use Rattle.aol_fusion.proofs.BlockAndOnce.{pick_fits_port}
-use Rattle.aol_fusion.proofs.Fresh.{AreFresh, names_of, fresh_parts, fresh_own, fewer_fresh, once_there, name_listed}
-use Rattle.aol_fusion.proofs.NewPair.{TakesPick, pair_holds}
-use Rattle.aol_fusion.proofs.PairLinks.{named}
-use Rattle.aol_fusion.proofs.RulesKept.{old_inner}
-use Rattle.aol_fusion.proofs.SameNames.{map_both, filter_among, among_filter}
-use Rattle.aol_fusion.proofs.Wired.{there_any}
+use Rattle.aol_fusion_laws.specs.Rules.{PairKeepsRules}
+use Rattle.aol_fusion_laws.proofs.BlockAndOnce.{pick_fits_port}
+use Rattle.aol_fusion_laws.proofs.Fresh.{AreFresh, names_of, fresh_parts, fresh_own, fewer_fresh, once_there, name_listed}
+use Rattle.aol_fusion_laws.proofs.NewPair.{TakesPick, pair_holds}
+use Rattle.aol_fusion_laws.proofs.PairLinks.{named}
+use Rattle.aol_fusion_laws.proofs.RulesKept.{old_inner}
+use Rattle.aol_fusion_laws.proofs.SameNames.{map_both, filter_among, among_filter}
+use Rattle.aol_fusion_laws.proofs.Wired.{there_any}
 
 -- what is kept and what is left out are all
 count_split : (n : List ℕ) (keep : Port → Bool) (ports : List Port)

@@ -11,7 +11,7 @@ use Rattle.aol_change.specs.declared.tasks.Side.{Side}
 use Rattle.aol_change.specs.declared.tasks.Side.TheVariants.{Inputs}
 use Rattle.aol_fusion_parts.specs.Ports.{port_name, renamed, name_among}
 use Rattle.aol_fusion_parts.specs.Whole.{moved_tiler, moved_tilers, placed_tiler, placed_tilers}
-use Rattle.aol_fusion.proofs.Wired.{Wire, tiler_of, inner_of_wire}
+use Rattle.aol_fusion_laws.proofs.Wired.{Wire, tiler_of, inner_of_wire}
 
 -- ---- the tilers as wires
 

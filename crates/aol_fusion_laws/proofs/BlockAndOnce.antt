@@ -19,9 +19,9 @@ use Rattle.aol_change.proofs.TilerForms.{inner_fits}
 use Rattle.aol_fusion_parts.specs.Joined.{pick_to, is_source, fits_block, pick_fits}
 use Rattle.aol_fusion_parts.specs.Made.{over_space, once_port, once_shape, once_tiling, block_of_first, once_of_second}
 use Rattle.aol_fusion_parts.specs.Ports.{sources, tiled_ports}
-use Rattle.aol_fusion.proofs.Fresh.{AreFresh, names_of, fresh_parts, fresh_own, fewer_fresh}
-use Rattle.aol_fusion.proofs.SameNames.{IsMaker, own_wired, filter_among}
-use Rattle.aol_fusion.proofs.Wired.{wired_holds}
+use Rattle.aol_fusion_laws.proofs.Fresh.{AreFresh, names_of, fresh_parts, fresh_own, fewer_fresh}
+use Rattle.aol_fusion_laws.proofs.SameNames.{IsMaker, own_wired, filter_among}
+use Rattle.aol_fusion_laws.proofs.Wired.{wired_holds}
 
 map_same : {X : Type 0} (xs : List X) → xs ≡ map (λ x. x) xs
 map_same [] = refl

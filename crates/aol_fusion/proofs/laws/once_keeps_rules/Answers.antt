@@ -1,5 +1,0 @@
-use Rattle.aol_fusion.proofs.RulesKept.{once_keeps_rules}
-use Rattle.aol_fusion.proofs.laws.once_keeps_rules.Goals as goal
-
-pub returns : goal.returns
-returns c = once_keeps_rules

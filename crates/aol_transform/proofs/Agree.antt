@@ -3,14 +3,13 @@ use Rattle.std.specs.Prelude.{◌≡◌, refl, List, [], ◌∷◌, ◌++◌}
 use Rattle.std.proofs.Common.{sym, ◌∙◌, subst}
 use Rattle.std.specs.List.{IsAmong, AllByRecursion}
 use Rattle.aol_model_types.specs.declared.document.Model.{Model}
-use Rattle.aol_model_types.specs.declared.job.InputArray.{InputArray}
 use Rattle.aol_model_types.specs.declared.job.Step.{Step}
 use Rattle.aol_flat.specs.Accept.{IsSound, IsAccepted}
 use Rattle.aol_flat.specs.Equation.{Valuation, IsSolution}
 use Rattle.aol_flat.specs.Inputs.{InputsFit, IsGivenFor}
-use Rattle.aol_flat.specs.Keep.{KeepsOutputs, AreComparable}
+use Rattle.aol_flat.specs.Keep.{KeepsOutputs}
 use Rattle.aol_flat.specs.Laid.{main_output_elements}
-use Rattle.aol_flat.specs.Place.{Element, elements_of}
+use Rattle.aol_flat.specs.Place.{elements_of}
 use Rattle.aol_flat.specs.Tasks.{main_inputs, main_outputs}
 use Rattle.aol_flat.specs.Reads.{by_caller}
 use Rattle.aol_flat.proofs.Elements.{read_values_agree}

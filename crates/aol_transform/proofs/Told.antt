@@ -1,5 +1,5 @@
 -- The maps of steps among those of all steps.
-use Rattle.std.proofs.Common.{◌≡◌, refl, sym, subst, ℕ, List, Result, Ok, Err, IfOk}
+use Rattle.std.proofs.Common.{◌≡◌, sym, subst, ℕ, List, Result, Ok, Err, IfOk}
 use Rattle.aol_model_types.specs.declared.document.Model.{Model}
 use Rattle.aol_model_types.specs.declared.job.PaveArgs.{PaveArgs}
 use Rattle.aol_model_types.specs.declared.job.Step.{Step}

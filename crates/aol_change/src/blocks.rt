@@ -18,7 +18,7 @@ use aol_tiler::{Tiler, TilerRefused};
 use std::alloc::Global;
 
 /// The shape of a scalar.
-fn scalar(alloc: Global) -> Shape
+pub fn scalar(alloc: Global) -> Shape
     ensures { result ≡ [] }
 {
     match Shape::new(alloc, &[]) {
@@ -39,7 +39,7 @@ fn shape_in(alloc: Global, inner: Option<&Task>, name: &Name) -> Shape
 
 /// Both shapes as one.
 #[tactic(auto, using(crate::proofs::Limits::joined_ok, crate::proofs::Limits::joined_rank, crate::proofs::Limits::joined_points))]
-fn joined_shape(block: &Shape, shape: &Shape) -> Result<Shape, StepRefused>
+pub fn joined_shape(block: &Shape, shape: &Shape) -> Result<Shape, StepRefused>
     ensures made { IfOk result (λ s. s ≡ block.now ++ shape.now) }
     ensures limit { IsWithin result (joined_limit block.now shape.now) }
 {

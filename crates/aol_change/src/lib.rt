@@ -19,11 +19,14 @@ mod remap;
 mod tasks;
 mod unblocked;
 
-pub use blocks::block_task;
+pub use blocks::{block_task, joined_shape, scalar};
 pub use laid::laid_out;
-pub use list::changed_model;
+pub use list::{changed_model, put_back};
 pub use names::new_name;
 pub use refused::StepRefused;
 pub use remap::Remap;
-pub use tasks::{Side, has_port, input_shape, output_shape, port_shape, push_copies, task_named};
+pub use tasks::{
+    Side, has_port, input_shape, inputs_of, output_shape, port_shape, push_copies, shape_of,
+    task_named,
+};
 pub use unblocked::old_numbers;

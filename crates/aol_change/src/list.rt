@@ -27,7 +27,7 @@ fn take_off(tasks: &mut Items<Task>, at: usize, rest: &mut Items<Task>) -> Resul
 
 /// Puts tasks at the end, of which the last one comes first.
 #[tactic(auto, using(crate::proofs::Lists::moved_back))]
-fn put_back(tasks: &mut Items<Task>, rest: &mut Items<Task>) -> Result<(), AllocError>
+pub fn put_back(tasks: &mut Items<Task>, rest: &mut Items<Task>) -> Result<(), AllocError>
     ensures { OnOk result (tasks.new ≡ tasks.old ++ reverse rest.old) }
 {
     while let Some(task) = rest.pop() {

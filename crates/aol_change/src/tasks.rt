@@ -31,7 +31,7 @@ pub fn task_named<'a>(tasks: &'a [Task], name: &Name) -> Option<&'a Task>
 }
 
 /// The shape of the first port with this name.
-fn shape_of<'a>(ports: &'a [Port], name: &Name) -> Option<&'a Shape>
+pub fn shape_of<'a>(ports: &'a [Port], name: &Name) -> Option<&'a Shape>
     ensures { option_copied result ≡ port_shape ports.now name.now }
 {
     ports

@@ -1,36 +1,17 @@
-//! The program `aol`: what the words of a call ask for, answered for the document that is read.
+//! The program `aol`: `aol` of `aol_program` over standard input and output.
 //!
-//! `program::aol` does all of it over a source and a sink that are handed in; `main` hands it standard input and output.
-//! Its clause says how each call ends, by the definitions in `specs/Answered.antt`; read these first.
+//! The clause of `aol` says how each call ends; `main` ends with the status that it hands back. The tables of calls stand
+//! in `tests.rt`.
 #![tactic(auto)]
 
-mod accepted;
-mod accepting;
-mod check;
-mod exec;
-mod fault;
-mod inputs;
-mod instance;
-mod laws;
-mod line;
-mod place;
-mod print;
-mod printed;
-mod program;
-mod refused;
-mod refusing;
-mod reply;
 #[cfg(test)]
 mod samples;
-mod status;
 #[cfg(test)]
 mod tests;
-mod text;
-mod words;
 
 use aol_io::{StdSink, StdSource};
 use aol_level::NoGate;
-use status::StatusKind;
+use aol_program::{StatusKind, aol};
 use std::env;
 use std::io::{self, ErrorKind};
 use std::process::ExitCode;
@@ -48,7 +29,7 @@ fn main(rt: HostRuntime) -> ExitCode {
     };
     let mut source = StdSource::new(rt.reader());
     let mut sink = StdSink::new(io::writer(&rt));
-    let status = program::aol(
+    let status = aol(
         &rt,
         rt.alloc(),
         words.as_slice(),

@@ -1,13 +1,11 @@
-use crate::program::aol;
 use crate::samples::{
     ADD, CHAIN, FILTER, FLIP, GRID, MATRIX, NEED, ONE, ONES, PASS, PROGRAM, ROUND, SPREAD, SQUARE,
     STEPPED, SUMS, TWO, WIDE,
 };
-use crate::status::Ran;
-use crate::text::{push_integer, push_number, push_text};
 use aol_expr::Val;
 use aol_io::{MemSink, MemSource};
 use aol_level::{Gate, Kept, NoGate};
+use aol_program::{Ran, aol};
 use aol_shape::{Items, NoMemory};
 use std::alloc::Global;
 use std::marker::Sync;
@@ -66,7 +64,7 @@ fn with_inputs(alloc: Global, count: u32) -> Result<String, Fail> {
     for k in 0..count {
         let comma = if k == 0 { "" } else { "," };
         let port = format!(in alloc; "{comma}{{\"name\":\"a{k}\",\"shape\":\"{{}}\"}}")?;
-        push_text(&mut ports, port.as_str()).map_err(|_| "no memory")?;
+        ports.push_str(port.as_str())?;
     }
     let document = changed(alloc, ONES, r#""in":["#, r#""in":[PORTS"#)?;
     changed(alloc, document.as_str(), "PORTS", ports.as_str())
@@ -574,25 +572,23 @@ fn a_document_has_at_most_16_mebibytes(rt: HostRuntime) -> Result<(), Fail> {
     Ok(())
 }
 
-/// Adds a cell: its value, and after a sign the worker that wrote it.
-fn push_cell(text: &mut String, kept: Kept) -> Result<(), NoMemory> {
-    push_text(text, " ")?;
+/// A cell: its value, and after a sign the worker that wrote it.
+fn cell_text(alloc: Global, kept: Kept) -> Result<String, Fail> {
+    let worker = kept.worker;
     match kept.val {
-        Val::Num(number) => push_integer(text, number)?,
-        Val::Bad(_) => push_text(text, "bad")?,
+        Val::Num(number) => Ok(format!(in alloc; " {number}@{worker}")?),
+        Val::Bad(_) => Ok(format!(in alloc; " bad@{worker}")?),
     }
-    push_text(text, "@")?;
-    push_number(text, kept.worker)
 }
 
 /// What ran: how many instances and workers there are, and then the cells.
-fn text_of(alloc: Global, ran: &Ran) -> Result<String, NoMemory> {
-    let mut text = String::new(alloc);
-    push_number(&mut text, ran.flat.instances())?;
-    push_text(&mut text, " ")?;
-    push_number(&mut text, ran.placed.workers())?;
+fn text_of(alloc: Global, ran: &Ran) -> Result<String, Fail> {
+    let instances = ran.flat.instances();
+    let workers = ran.placed.workers();
+    let mut text = format!(in alloc; "{instances} {workers}")?;
     for cell in 0..ran.memory.len() {
-        push_cell(&mut text, ran.memory.get(cell))?;
+        let more = cell_text(alloc, ran.memory.get(cell))?;
+        text.push_str(more.as_str())?;
     }
     Ok(text)
 }
@@ -610,7 +606,7 @@ fn ran_of<R: Threads + Sync, G: Gate>(
     let given = words_of(alloc, words)?;
     let status = aol(rt, alloc, given.as_slice(), &mut source, &mut sink, gate);
     match status.ran {
-        Some(ran) => Ok(text_of(alloc, &ran).map_err(|_| "no memory")?),
+        Some(ran) => text_of(alloc, &ran),
         None => Ok(String::new(alloc)),
     }
 }

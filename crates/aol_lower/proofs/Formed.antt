@@ -23,6 +23,7 @@ use Rattle.aol_lower.specs.declared.reads.Reads.{Reads}
 use Rattle.aol_lower.specs.Contract.{AreFormed}
 use Rattle.aol_lower.specs.Effect.{kind_number, patterns_size, AreShapes}
 use Rattle.aol_lower.specs.Lowered.{greatest, least, nought, fail, either, guard, assign, attempt, at_most, plus, minus, times, times_above, times_below, divided, operation, entry_at, fetched, inside, next_rank, ranked, element_in, Setting, bound_at, point_at, then_do, series, lowered, all_lowered}
+use Rattle.aol_lower.specs.Quiet.{is_quiet, all_quiet}
 use Rattle.aol_lower.specs.Small.{room, room_of, IsSmall, AreSmall}
 use Rattle.aol_lower.proofs.Elements.{HasRoom, port_room}
 use Rattle.aol_lower.proofs.Rooms.{count_fits, some_room}
@@ -91,31 +92,48 @@ module _ (vars tables : ℕ) where
       second true b h = absurd (cc)
       second false b h = h
 
-  -- they are well formed, go at most so deep, and set no variable of these
+  append_quiet : (xs ys : List Stmt) → all_quiet (stmts xs) ≡ true → all_quiet (stmts ys) ≡ true → all_quiet (stmts (xs ++ ys)) ≡ true
+  append_quiet [] ys h k = k
+  append_quiet (x ∷ xs) ys h k =
+      let a = is_quiet x in let b = all_quiet (stmts xs) in
+      both_true a (all_quiet (stmts (xs ++ ys))) (first a b h) (append_quiet xs ys (second a b h) k)
+    where
+      first : (a b : Bool) → a && b ≡ true → a ≡ true
+      first true b h = refl
+      first false b h = absurd (cc)
+
+      second : (a b : Bool) → a && b ≡ true → b ≡ true
+      second true b h = h
+      second false b h = absurd (cc)
+
+  -- they are well formed, go at most so deep, set no variable of these, and put nothing
   pub record Shaped (n : ℕ) (Q : ℕ → Type 0) (body : List Stmt) : Type 0 where
     pub formed : stmts_formed vars tables (stmts body) ≡ true
     pub depth : stmts_depth (stmts body) ≤ n
     pub sets : (k : ℕ) → Q k → any_sets k (stmts body) ≡ false
+    pub quiet : all_quiet (stmts body) ≡ true
 
   module _ (Q : ℕ → Type 0) (none : Q 0 → ⊥) where
     pub nothing_formed : (n : ℕ) → Shaped n Q []
-    nothing_formed n = record { formed = refl; depth = omega arith; sets = λ k q. refl }
+    nothing_formed n = record { formed = refl; depth = omega arith; sets = λ k q. refl; quiet = refl }
 
     pub append : (n : ℕ) (xs ys : List Stmt) → Shaped n Q xs → Shaped n Q ys → Shaped n Q (xs ++ ys)
     append n xs ys h g = record {
       formed = append_formed xs ys h.formed g.formed;
       depth = append_depth xs ys n h.depth g.depth;
       sets = λ k q. append_sets k xs ys (h.sets k q) (g.sets k q);
+      quiet = append_quiet xs ys h.quiet g.quiet;
     }
 
     pub deeper : (n m : ℕ) (body : List Stmt) → n ≤ m → Shaped n Q body → Shaped m Q body
-    deeper n m body le h = record { formed = h.formed; depth = omega (arith, le, h.depth); sets = h.sets }
+    deeper n m body le h = record { formed = h.formed; depth = omega (arith, le, h.depth); sets = h.sets; quiet = h.quiet }
 
     pub set_formed : (n k : ℕ) (e : Expr) → k < vars → expr_formed vars tables e ≡ true → expr_depth e < n → (Q k → ⊥) → Shaped n Q (set_var k e ∷ [])
     set_formed n k e inside formed low own = record {
       formed = and_nothing (nat_lt k vars && expr_formed vars tables e) ∙ both_true (nat_lt k vars) (expr_formed vars tables e) (lt-ltb k vars inside) formed;
       depth = omega (arith, low);
       sets = λ j q. or_nothing (k == j) ∙ not_equal k j (λ e. own (subst Q (sym e) q));
+      quiet = refl;
     }
 
     pub either_formed : (n : ℕ) (test : Expr) (first second : List Stmt) → expr_formed vars tables test ≡ true → expr_depth test ≤ n → Shaped n Q first → Shaped n Q second → Shaped (n + 1) Q (either test first second)
@@ -125,6 +143,7 @@ module _ (vars tables : ℕ) where
           (both_true (expr_formed vars tables test) (stmts_formed vars tables (stmts first)) formed h.formed) g.formed;
       depth = let a = h.depth in let b = g.depth in omega (arith, low, a, b);
       sets = λ k q. or_nothing (any_sets k (stmts first) || any_sets k (stmts second)) ∙ both_false (any_sets k (stmts first)) (any_sets k (stmts second)) (h.sets k q) (g.sets k q);
+      quiet = and_nothing (all_quiet (stmts first) && all_quiet (stmts second)) ∙ both_true (all_quiet (stmts first)) (all_quiet (stmts second)) h.quiet g.quiet;
     }
 
     pub guard_formed : (n : ℕ) (body : List Stmt) → 0 < vars → 2 ≤ n → Shaped n Q body → Shaped (n + 1) Q (guard body ∷ [])
@@ -283,6 +302,7 @@ module _ (vars tables : ℕ) where
         ∙ rw (lt-ltb k vars inside, lt-ltb m (2 ^ 63) small, leb-zero m, free) h.formed;
     depth = let a = h.depth in omega (arith, a);
     sets = λ j q. or_nothing ((k == j) || any_sets j (stmts body)) ∙ both_false (k == j) (any_sets j (stmts body)) (not_equal k j (λ e. own (subst Q (sym e) q))) (h.sets j q);
+    quiet = and_nothing (all_quiet (stmts body)) ∙ h.quiet;
   }
 
 -- ---- names
@@ -384,8 +404,8 @@ module _ (vars tables : ℕ) where
           let one = again b (d + 2) (omega (arith, le)) (omega (arith, above)) (omega (arith, inside)) in
           let two = again (d + 2) (d + 2) (omega arith) (omega (arith, above)) (omega (arith, inside)) in
           let own : ℕ → Type 0 = λ k. k ≡ d + 1 in
-          let free = turn_formed own (λ e. omega (arith, e)) d m term in_d (omega arith) (λ e. omega (arith, e)) (record { formed = two.formed; depth = omega (arith, two.depth); sets = λ k e. two.sets k (omega (arith, e), omega (arith, e)) }) in
-          let turn = turn_formed (Low b) (none_low b) d m term in_d (omega arith) (λ q. omega (arith, q.1, le)) (record { formed = one.formed; depth = omega (arith, one.depth); sets = one.sets }) in
+          let free = turn_formed own (λ e. omega (arith, e)) d m term in_d (omega arith) (λ e. omega (arith, e)) (record { formed = two.formed; depth = omega (arith, two.depth); sets = λ k e. two.sets k (omega (arith, e), omega (arith, e)); quiet = two.quiet }) in
+          let turn = turn_formed (Low b) (none_low b) d m term in_d (omega arith) (λ q. omega (arith, q.1, le)) (record { formed = one.formed; depth = omega (arith, one.depth); sets = one.sets; quiet = one.quiet }) in
           let loop = for_formed vars tables (Low b) (m + 2) (d + 1) n body (omega (arith, in_d)) (omega (arith, small.0)) (λ q. omega (arith, q.1, le)) (free.sets (d + 1) refl) turn in
           let last : ℕ = 2 * (1 + depth e) + 38 in
           append vars tables (Low b) (none_low b) last (set_var d nought ∷ []) (for_each (d + 1) (pos 0) (pos n) (stmts body) ∷ [])
@@ -407,4 +427,4 @@ module _ (vars tables : ℕ) where
     pub lowered_formed : (e : Tree) → IsSmall e → (d : ℕ) → c.rank + 2 ≤ d → d + room e ≤ vars → AreFormed vars tables (2 * depth e + 38) d (lowered c [] d e)
     lowered_formed e small d above inside =
         let s = expr_shaped e small [] tt d d (omega arith) above inside in
-        record { formed = s.formed; depth = s.depth; sets = λ k some below. s.sets k (some, below) }
+        record { formed = s.formed; depth = s.depth; sets = λ k some below. s.sets k (some, below); quiet = s.quiet }

@@ -49,11 +49,11 @@ module _ (reads : Reads) (ins : List Port) (rank d : ℕ) (e : Tree) (body : Lis
       let a = are vars tables shapes few room entries numbers in
       let n : ℕ = 2 * depth e + 38 in
       let some = some_room e in
-      let deep : Shaped vars tables (n + 1) (Low d) first = record { formed = a.formed; depth = omega (arith, a.depth); sets = λ k q. a.sets k q.0 q.1 } in
+      let deep : Shaped vars tables (n + 1) (Low d) first = record { formed = a.formed; depth = omega (arith, a.depth); sets = λ k q. a.sets k q.0 q.1; quiet = a.quiet } in
       let s : Shaped vars tables (n + 1) (Low d) (then_do first (width_test w d))
       = then_formed vars tables (Low d) (none_low d) n first (width_test w d) (omega (arith, room, some)) (omega arith) deep
       (deeper vars tables (Low d) (none_low d) 4 n (width_test w d) (omega arith) (width_formed vars tables (Low d) (none_low d) w d (omega (arith, room, some)))) in
-      subst (λ b. AreFormed vars tables (2 * depth e + 39) d b) (sym made) (record { formed = s.formed; depth = omega (arith, s.depth); sets = λ k low below. s.sets k (low, below) })
+      subst (λ b. AreFormed vars tables (2 * depth e + 39) d b) (sym made) (record { formed = s.formed; depth = omega (arith, s.depth); sets = λ k low below. s.sets k (low, below); quiet = s.quiet })
 
 -- the tests of widths
 module _ (reads : Reads) (ins : List Port) (ws : List Width) (d : ℕ) (some : 1 < d) (body : List Stmt) (made : body ≡ ports_test reads ins ws (pos 0) d) where

@@ -90,7 +90,7 @@ module _ (vars tables : ℕ) (reads : Reads) (in_entries : reads.entries < table
       (numbers_formed w start (size p.shape) (omega (arith, few)) (omega (arith, few))) (ports_formed ps ws (start + size p.shape) (omega (arith, few)))
 
   pub widths_formed : (ps : List Port) (ws : List Width) → patterns_size ps < 2 ^ 63 → AreFormed vars tables 11 d (ports_test reads ps ws (pos 0) d)
-  widths_formed ps ws few = let s = ports_formed ps ws 0 (omega (arith, few)) in record { formed = s.formed; depth = s.depth; sets = λ k low below. s.sets k (low, below) }
+  widths_formed ps ws few = let s = ports_formed ps ws 0 (omega (arith, few)) in record { formed = s.formed; depth = s.depth; sets = λ k low below. s.sets k (low, below); quiet = s.quiet }
 
   pub first_formed : (count : ℕ) → count < 2 ^ 63 → AreFormed vars tables 9 d (first_fault reads count d)
   first_formed count few =
@@ -99,4 +99,4 @@ module _ (vars tables : ℕ) (reads : Reads) (in_entries : reads.entries < table
       let s = append vars tables (Low d) (none_low d) 9 (set_var d nought ∷ []) (for_each (d + 1) (pos 0) (pos count) (stmts body) ∷ [])
       (set_formed vars tables (Low d) (none_low d) 9 d nought (omega (arith, inside)) refl (omega arith) low_d)
       (for_formed vars tables (Low d) 8 (d + 1) count body inside few low_next (free.sets (d + 1) refl) (mark_formed vars tables (Low d) (none_low d) reads in_entries in_numbers d inside more low_d)) in
-      record { formed = s.formed; depth = s.depth; sets = λ k low below. s.sets k (low, below) }
+      record { formed = s.formed; depth = s.depth; sets = λ k low below. s.sets k (low, below); quiet = s.quiet }

@@ -11,6 +11,7 @@ use Rattle.aol_csyn.specs.Form.{any_sets, stmts_depth, stmts_formed}
 use Rattle.aol_lower.specs.declared.reads.Reads.{Reads}
 use Rattle.aol_lower.specs.Effect.{IsSound, Leaves, AreRead, AreShapes, IsGiven, patterns_size}
 use Rattle.aol_lower.specs.Ports.{fitted, all_hold, Tests, first_mark, AreMarked, LeavesMark}
+use Rattle.aol_lower.specs.Quiet.{all_quiet}
 use Rattle.aol_lower.specs.Small.{room}
 
 -- from each state that holds the inputs and the output point, and has room for their variables, the statements leave the value of the expression
@@ -19,11 +20,12 @@ LeaveValue reads ins rank d e body =
     (tables : List (List ℤ)) (g : Given) (s : State) → AreShapes ins → ins ≡ g.ins → rank ≡ length g.at → IsGiven tables reads g d s → d + room e ≤ length s.vars
     → Leaves tables body d s (value g [] e)
 
--- among so many variables and tables the statements are well formed and go at most so deep, and below a variable they set only that of the fault
+-- among so many variables and tables the statements are well formed and go at most so deep, below a variable they set only that of the fault, and they put nothing into the arrays
 pub record AreFormed (vars tables deep d : ℕ) (body : List Stmt) : Type 0 where
   pub formed : stmts_formed vars tables (stmts body) ≡ true
   pub depth : stmts_depth (stmts body) ≤ deep
   pub sets : (k : ℕ) → 0 < k → k < d → any_sets k (stmts body) ≡ false
+  pub quiet : all_quiet (stmts body) ≡ true
 
 -- so they are where there are variables and tables for them
 abbrev pub AreWellFormed : Reads → List Port → ℕ → ℕ → Tree → List Stmt → Type 0

@@ -1,6 +1,7 @@
 pub mod Effect
 pub mod Lowered
 pub mod Small
+pub mod Quiet
 pub mod Laws
 pub mod Stored
 pub mod Ports

@@ -14,7 +14,7 @@ mod faults;
 mod laws;
 mod lower;
 mod operators;
-mod parts;
+pub mod parts;
 mod reads;
 mod scope;
 mod space;

@@ -20,35 +20,35 @@ fn boxed(alloc: Global, e: CExpr) -> Result<Box<CExpr>, NoMemory>
 }
 
 /// An operator between two expressions.
-pub(crate) fn between(alloc: Global, op: COp, left: CExpr, right: CExpr) -> Result<CExpr, NoMemory>
+pub fn between(alloc: Global, op: COp, left: CExpr, right: CExpr) -> Result<CExpr, NoMemory>
     ensures { IfOk result (λ e. expr_of e ≡ bin op (expr_of left) (expr_of right)) }
 {
     Ok(CExpr::Bin(op, boxed(alloc, left)?, boxed(alloc, right)?))
 }
 
 /// The cell of V at an index.
-pub(crate) fn cell(alloc: Global, index: CExpr) -> Result<CExpr, NoMemory>
+pub fn cell(alloc: Global, index: CExpr) -> Result<CExpr, NoMemory>
     ensures { IfOk result (λ e. expr_of e ≡ cell_v (expr_of index)) }
 {
     Ok(CExpr::V(boxed(alloc, index)?))
 }
 
 /// The cell of F at an index.
-pub(crate) fn fault_cell(alloc: Global, index: CExpr) -> Result<CExpr, NoMemory>
+pub fn fault_cell(alloc: Global, index: CExpr) -> Result<CExpr, NoMemory>
     ensures { IfOk result (λ e. expr_of e ≡ cell_f (expr_of index)) }
 {
     Ok(CExpr::F(boxed(alloc, index)?))
 }
 
 /// The entry of a table at an index.
-pub(crate) fn table_entry(alloc: Global, table: u32, index: CExpr) -> Result<CExpr, NoMemory>
+pub fn table_entry(alloc: Global, table: u32, index: CExpr) -> Result<CExpr, NoMemory>
     ensures { IfOk result (λ e. expr_of e ≡ tab table (expr_of index)) }
 {
     Ok(CExpr::Tab(table, boxed(alloc, index)?))
 }
 
 /// One statement.
-pub(crate) fn single(alloc: Global, statement: CStmt) -> Result<Items<CStmt>, NoMemory>
+pub fn single(alloc: Global, statement: CStmt) -> Result<Items<CStmt>, NoMemory>
     ensures { IfOk result (λ body. trees_of body ≡ stmt_of statement ∷ []) }
 {
     let mut body = Items::new(alloc);
@@ -57,7 +57,7 @@ pub(crate) fn single(alloc: Global, statement: CStmt) -> Result<Items<CStmt>, No
 }
 
 /// A variable takes the value of an expression.
-pub(crate) fn set(alloc: Global, k: u32, e: CExpr) -> Result<Items<CStmt>, NoMemory>
+pub fn set(alloc: Global, k: u32, e: CExpr) -> Result<Items<CStmt>, NoMemory>
     ensures { IfOk result (λ body. trees_of body ≡ set_var k (expr_of e) ∷ []) }
 {
     single(alloc, CStmt::Set(k, e))
@@ -76,14 +76,14 @@ pub fn kind_number(kind: Kind) -> i64
 }
 
 /// The fault of this kind.
-pub(crate) fn fail(alloc: Global, kind: Kind) -> Result<Items<CStmt>, NoMemory>
+pub fn fail(alloc: Global, kind: Kind) -> Result<Items<CStmt>, NoMemory>
     ensures { IfOk result (λ body. trees_of body ≡ fail kind ∷ []) }
 {
     set(alloc, 0, CExpr::Num(kind_number(kind)))
 }
 
 /// The first statements where the test isn't 0, else the second.
-pub(crate) fn either(
+pub fn either(
     alloc: Global,
     test: CExpr,
     first: Items<CStmt>,
@@ -95,7 +95,7 @@ pub(crate) fn either(
 }
 
 /// Appends statements that are left out where there is a fault.
-pub(crate) fn push_guarded(
+pub fn push_guarded(
     alloc: Global,
     out: &mut Items<CStmt>,
     body: Items<CStmt>,

@@ -1,0 +1,15 @@
+pub mod Rests
+pub mod Does
+pub mod Lists
+pub mod Progress
+pub mod PointSteps
+pub mod Settle
+pub mod Port
+pub mod Taken
+pub mod PortList
+pub mod Whole
+pub mod Fits
+pub mod BodyFits
+pub mod CopyDoes
+pub mod PortsMade
+pub mod MadeOf

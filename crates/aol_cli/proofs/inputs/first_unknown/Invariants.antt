@@ -1,7 +1,0 @@
-use Rattle.std.proofs.Common.{◌≡◌, drop}
-use Rattle.aol_cli.specs.Inputs.{first_unknown}
-use Rattle.aol_cli.proofs.inputs.first_unknown.Given as goal
-
--- the arrays so far are those of ports
-abbrev pub invariant-loop-array : goal.invariant-loop-array
-invariant-loop-array l = first_unknown l.ports l.inputs ≡ first_unknown l.ports (drop l.array-index l.inputs)

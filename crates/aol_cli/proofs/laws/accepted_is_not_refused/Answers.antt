@@ -1,5 +1,0 @@
-use Rattle.aol_cli.proofs.OneRefusal.{accepted_not_refused}
-use Rattle.aol_cli.proofs.laws.accepted_is_not_refused.Goals as goal
-
-pub returns : goal.returns
-returns c = accepted_not_refused

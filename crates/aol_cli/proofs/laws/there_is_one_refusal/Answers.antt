@@ -1,5 +1,0 @@
-use Rattle.aol_cli.proofs.OneRefusal.{one_refusal}
-use Rattle.aol_cli.proofs.laws.there_is_one_refusal.Goals as goal
-
-pub returns : goal.returns
-returns c = one_refusal

@@ -1,5 +1,0 @@
-use Rattle.aol_cli.proofs.OneReply.{one_reply}
-use Rattle.aol_cli.proofs.laws.there_is_one_reply.Goals as goal
-
-pub returns : goal.returns
-returns c = one_reply

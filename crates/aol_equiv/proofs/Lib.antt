@@ -1,0 +1,14 @@
+pub mod Setting
+pub mod Paths
+pub mod Ended
+pub mod MainLeads
+pub mod Filling
+pub mod Spotting
+pub mod RowKinds
+pub mod ReadEnds
+pub mod Befores
+pub mod Keeping
+pub mod Olds
+pub mod FirstLost
+pub mod Spots
+pub mod Endings

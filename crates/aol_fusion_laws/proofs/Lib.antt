@@ -1,0 +1,13 @@
+pub mod BlockAndOnce
+pub mod Fresh
+pub mod NewWhole
+pub mod NewWires
+pub mod Renamed
+pub mod SameNames
+pub mod Substituted
+pub mod TilersOf
+pub mod Wired
+pub mod PairLinks
+pub mod NewPair
+pub mod RulesKept
+pub mod PairKept

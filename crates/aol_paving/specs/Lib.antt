@@ -1,0 +1,4 @@
+pub mod Crossings
+pub mod Pave
+pub mod Paving
+pub mod Leaves

@@ -10,4 +10,4 @@
 
 pub use aol_document_laws::{documents_are_read_again, read_trees_are_held, reading_shows};
 pub use aol_document_reading::document_of;
-pub use aol_document_writing::value_of;
+pub use aol_document_writing::{tree_of, value_of};

@@ -10,4 +10,4 @@
 
 mod writing;
 
-pub use writing::value_of;
+pub use writing::{tree_of, value_of};

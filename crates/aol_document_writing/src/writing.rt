@@ -7,4 +7,4 @@ mod tasks;
 mod to_tree;
 mod whole;
 
-pub use whole::value_of;
+pub use whole::{tree_of, value_of};

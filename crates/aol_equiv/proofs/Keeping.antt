@@ -155,7 +155,7 @@ module _ (s : Sides) (known : AreCompared s) where
     none_told all k r at = let d = read_of k r at in kept_there k r at (all k (slice_get_within taken k d.0 d.1))
 
     pub lost_told : (number : ℕ) (required : End) → IsFirstAt s taken before number required → (p : ℕ × ℕ) → slice_get ps number ≡ Some p
-        → (r : Reading) × IsFirstFailing IsKept rs r × (r.reader ≡ who) × (r.port ≡ p.0) × (r.rank ≡ p.1) × (q : Element) × (reading_before old old_of r ≡ Some q) × EndsAt old q required
+        → (r : Reading) × IsFirstFailing IsKept rs r × (r.reader ≡ who) × (r.port ≡ p.0) × (r.rank ≡ p.1) × (q : Element) × (reading_before old old_of r ≡ Some q) × EndsAt old q required × ((e : End) → EndsAt old q e → e ≡ required)
     lost_told number required first p place =
         let t = there_at taken number first.inside in
         let z = zip_get (IsReadOf s.new.now) es taken zip number t.0 t.1 in
@@ -177,6 +177,9 @@ module _ (s : Sides) (known : AreCompared s) where
           o.element,
           o.is,
           (known.old_is.each o.element o.read o.exists o.reads required).0 (ap (end_of s.old_ends.now) one ∙ first.ends),
+          λ e g.
+          let ends : Some e ≡ Some required = sym ((known.old_is.each o.element o.read o.exists o.reads e).1 g) ∙ (ap (end_of s.old_ends.now) one ∙ first.ends) in
+          cc,
         )
 
   -- ---- an instance
@@ -281,6 +284,7 @@ module _ (s : Sides) (known : AreCompared s) where
             record {
               reading = h.0;
               is_first = record { first = first_front IsKept all (main_readings new) h.0 whole; old_element = h.5; same_read = h.6; ends = h.7 };
+              only = h.8;
               same_reader = sym h.2;
               same_port = sym h.3;
               same_point = sym h.4;
@@ -380,6 +384,7 @@ module _ (s : Sides) (known : AreCompared s) where
           record {
             reading = h.0;
             is_first = record { first = first_after IsKept all_before (main_readings new) h.0 kept_before h.1; old_element = h.5; same_read = h.6; ends = h.7 };
+              only = h.8;
             same_reader = sym h.2;
             same_port = sym h.3;
             same_point = sym h.4;

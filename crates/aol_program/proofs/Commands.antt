@@ -4,7 +4,7 @@ use Rattle.std.specs.Option.{IsSome}
 use Rattle.aol_io.specs.Streams.{WasAll, TookAtMost}
 use Rattle.aol_program.specs.declared.program.TheConstants.{MAX_BYTES}
 use Rattle.aol_program.specs.declared.words.Command.{Command}
-use Rattle.aol_program.specs.declared.words.Command.TheVariants.{Check, Print, Run, Place, Exec}
+use Rattle.aol_program.specs.declared.words.Command.TheVariants.{Check, Print, Transform, Run, Place, Exec}
 use Rattle.aol_program.specs.Words.{Subject, document, job, subject_of, ReadsSource, IsAsked, IsWorkers, Means}
 use Rattle.aol_program.specs.Answered.{SourceEnds, IsGiven, IsWithin}
 
@@ -21,6 +21,7 @@ not_two x is so = subst is_document (sym is ∙ so) cc
 pub about : (c : Command) → (x : Subject) × (subject_of c ≡ Some x)
 about Check = (document, refl)
 about Print = (document, refl)
+about Transform = (document, refl)
 about (Run n) = (document, refl)
 about (Place n) = (document, refl)
 about Exec = (job, refl)
@@ -30,11 +31,12 @@ pub about_known : (c k : Command) (x : Subject) → c ≡ k → subject_of k ≡
 about_known c k x is about = subst (λ (d : Command). subject_of d ≡ Some x) (sym is) about
 
 -- the commands that are about a document
-pub about_document : (c : Command) → (c ≡ Check) ⊎ ((c ≡ Print) ⊎ (((n : ℕ) × (c ≡ Run n)) ⊎ ((n : ℕ) × (c ≡ Place n)))) → subject_of c ≡ Some document
+pub about_document : (c : Command) → (c ≡ Check) ⊎ ((c ≡ Print) ⊎ ((c ≡ Transform) ⊎ (((n : ℕ) × (c ≡ Run n)) ⊎ ((n : ℕ) × (c ≡ Place n))))) → subject_of c ≡ Some document
 about_document c (inl is) = about_known c Check document is refl
 about_document c (inr (inl is)) = about_known c Print document is refl
-about_document c (inr (inr (inl is))) = about_known c (Run is.0) document is.1 refl
-about_document c (inr (inr (inr is))) = about_known c (Place is.0) document is.1 refl
+about_document c (inr (inr (inl is))) = about_known c Transform document is refl
+about_document c (inr (inr (inr (inl is)))) = about_known c (Run is.0) document is.1 refl
+about_document c (inr (inr (inr (inr is)))) = about_known c (Place is.0) document is.1 refl
 
 -- a run and a placement are asked for so many workers
 pub run_workers : (c : Command) (n : ℕ) → IsAsked c → c ≡ Run n → IsWorkers n

@@ -7,10 +7,10 @@ use Rattle.aol_exec.specs.Answer.{wrong, past, long_memory, stuck, ended, Answer
 use Rattle.aol_exec.specs.Results.{IfCause}
 use Rattle.aol_exec.specs.declared.job.JobRefused.{JobRefused}
 use Rattle.aol_exec.specs.declared.job.JobRefused.TheVariants as refusals
-use Rattle.aol_program.specs.declared.reply.Reply.{Reply}
-use Rattle.aol_program.specs.declared.status.StatusKind.TheVariants.{Done}
+use Rattle.aol_lines.specs.declared.reply.Reply.{Reply}
+use Rattle.aol_lines.specs.declared.status.StatusKind.TheVariants.{Done}
 use Rattle.aol_program.specs.ExecAnswer.{IsExecReply, IsLineOf}
-use Rattle.aol_program.specs.Reply.{ReplyOf, reply, reply_of}
+use Rattle.aol_lines.specs.Reply.{ReplyOf, reply, reply_of}
 
 -- the lines of the final arrays
 pub ended_told : (d : Data) (text : List ℕ) → Answers d (ended text) → IsExecReply d (reply Done text)

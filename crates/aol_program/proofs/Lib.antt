@@ -1,6 +1,5 @@
 pub mod Checked
 pub mod Replies
-pub mod LineWords
 pub mod OneFound
 pub mod OneReply
 pub mod OneRefusal
@@ -9,9 +8,7 @@ pub mod Acceptance
 pub mod Refusals
 pub mod RunReplies
 pub mod Finishing
-pub mod Instances
 pub mod Placements
-pub mod Readers
-pub mod LeafTasks
 pub mod Commands
 pub mod ExecTold
+pub mod KeptRun

@@ -15,12 +15,12 @@ use Rattle.aol_flat.proofs.Among.{get_among}
 use Rattle.aol_flat.proofs.Readings.{readings_are_reads}
 use Rattle.aol_flat.proofs.Real.{accepted_has_no_cycle}
 use Rattle.aol_flat.proofs.Twice.{twice_is_found}
-use Rattle.aol_program.specs.declared.status.StatusKind.TheVariants as statuses
-use Rattle.aol_program.specs.Instance.{instance_text}
+use Rattle.aol_lines.specs.declared.status.StatusKind.TheVariants as statuses
+use Rattle.aol_lines.specs.Instance.{instance_text}
 use Rattle.aol_program.specs.ModelAnswer.{limited, written_twice, unwritten, in_cycle}
 use Rattle.aol_program.specs.OneRefusal.{OneRefusal, AcceptedIsNotRefused}
-use Rattle.aol_program.specs.Refused.{reading_words, twice_words}
-use Rattle.aol_program.specs.Reply.{refusal}
+use Rattle.aol_lines.specs.Refused.{reading_words, twice_words}
+use Rattle.aol_lines.specs.Reply.{refusal}
 use Rattle.aol_program.proofs.OneFound.{one_found, not_both}
 
 -- a list has one first member at which a fact fails

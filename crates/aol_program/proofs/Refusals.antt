@@ -13,17 +13,17 @@ use Rattle.aol_flat.specs.Laid.{Laid}
 use Rattle.aol_assign.specs.declared.refused.AssignRefused.{AssignRefused}
 use Rattle.aol_program.specs.declared.accepting.Refusal.{Refusal}
 use Rattle.aol_program.specs.declared.accepting.Refusal.TheVariants as refusing
-use Rattle.aol_program.specs.declared.reply.Reply.{Reply}
-use Rattle.aol_program.specs.declared.status.StatusKind.TheVariants as statuses
+use Rattle.aol_lines.specs.declared.reply.Reply.{Reply}
+use Rattle.aol_lines.specs.declared.status.StatusKind.TheVariants as statuses
 use Rattle.aol_program.specs.declared.words.Command.{Command}
 use Rattle.aol_program.specs.Accept.{Meant, Reads, document_with, IsLaidAs, IsCause}
 use Rattle.aol_program.specs.Answer.{DocumentAnswers, misfit, refused, TreeAnswers, wrong_form, text_limit, document, TextAnswers, no_json, tree}
-use Rattle.aol_program.specs.Instance.{instance_text}
+use Rattle.aol_lines.specs.Instance.{instance_text}
 use Rattle.aol_program.specs.ModelAnswer.{ModelRefused, limited, written_twice, unwritten, in_cycle}
 use Rattle.aol_program.specs.Ran.{IsRunCode}
 use Rattle.aol_program.specs.Refusing.{IsReplyTo}
-use Rattle.aol_program.specs.Reply.{ReplyOf, refusal, reply_of}
-use Rattle.aol_program.specs.Status.{code_of}
+use Rattle.aol_lines.specs.Reply.{ReplyOf, refusal, reply_of}
+use Rattle.aol_lines.specs.Status.{code_of}
 use Rattle.aol_program.proofs.Replies.{made_of}
 use Rattle.aol_program.proofs.Tested.{limit_told, cycle_within}
 

@@ -4,14 +4,14 @@ use Rattle.std.specs.Prelude.{IfOk}
 use Rattle.aol_shape.specs.declared.memory.NoMemory.{NoMemory}
 use Rattle.aol_model_types.specs.declared.document.Document.{Document}
 use Rattle.aol_program.specs.declared.reply.Answer.{Answer}
-use Rattle.aol_program.specs.declared.reply.Reply.{Reply}
+use Rattle.aol_lines.specs.declared.reply.Reply.{Reply}
 use Rattle.aol_program.specs.declared.status.Ran.{Ran}
 use Rattle.aol_program.specs.declared.words.Command.{Command}
-use Rattle.aol_program.specs.declared.words.Command.TheVariants.{Check, Print, Run, Place, Exec}
+use Rattle.aol_program.specs.declared.words.Command.TheVariants.{Check, Print, Transform, Run, Place, Exec}
 use Rattle.aol_program.specs.Finished.{IsAlone}
 use Rattle.aol_program.specs.Ran.{IsRunCode, HasRan}
-use Rattle.aol_program.specs.Reply.{ReplyOf, reply_of}
-use Rattle.aol_program.specs.Status.{code_of}
+use Rattle.aol_lines.specs.Reply.{ReplyOf, reply_of}
+use Rattle.aol_lines.specs.Status.{code_of}
 
 -- by an equation with the reply
 pub made_of : (P : ReplyOf → Type 0) (r : Result Reply NoMemory) (q : ReplyOf) → IfOk r (λ x. reply_of x ≡ q) → P q → IfOk r (λ x. P (reply_of x))
@@ -49,6 +49,7 @@ alone_ran P Q (Err e) (Err f) h p step = p
 pub none_ran : (c : Command) (P : Document → Type 0) (code : ℕ) → ¬ IsRunCode code → HasRan c P code None
 none_ran Check P code h = refl
 none_ran Print P code h = refl
+none_ran Transform P code h = refl
 none_ran (Run n) P code h = h
 none_ran (Place n) P code h = refl
 none_ran Exec P code h = refl

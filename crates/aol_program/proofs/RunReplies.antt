@@ -26,9 +26,9 @@ use Rattle.aol_runner.specs.Outputs.{output_of, AreOutputs}
 use Rattle.aol_program.specs.Inputs.{given_arrays}
 use Rattle.aol_program.specs.Outputs.{array_line, values_of, outputs_reply}
 use Rattle.aol_program.specs.Ran.{IsRunCode}
-use Rattle.aol_program.specs.Reply.{ReplyOf}
+use Rattle.aol_lines.specs.Reply.{ReplyOf}
 use Rattle.aol_program.specs.Run.{fault_or_lines, run_reply, IsRunReply}
-use Rattle.aol_program.specs.Status.{code_of}
+use Rattle.aol_lines.specs.Status.{code_of}
 
 -- ---- the inputs that are handed to a run
 

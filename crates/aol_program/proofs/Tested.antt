@@ -20,10 +20,10 @@ use Rattle.aol_flat_laws.proofs.AcyclicLevels.{acyclic_is_levelled}
 use Rattle.aol_flat_laws.proofs.LevelsBridge.{levels_are_of_model, loops_are_cycles}
 use Rattle.aol_assign.specs.Answers.{TwiceIs, UnwrittenIs}
 use Rattle.aol_depend.specs.Gather.{AreEntries}
-use Rattle.aol_program.specs.declared.status.StatusKind.TheVariants as statuses
+use Rattle.aol_lines.specs.declared.status.StatusKind.TheVariants as statuses
 use Rattle.aol_program.specs.ModelAnswer.{ModelRefused, limited, written_twice, unwritten}
-use Rattle.aol_program.specs.Refused.{IsReadBy, reading_words, target_text, writer_words}
-use Rattle.aol_program.specs.Reply.{refusal}
+use Rattle.aol_lines.specs.Refused.{IsReadBy, reading_words, target_text, writer_words}
+use Rattle.aol_lines.specs.Reply.{refusal}
 
 -- the first limit that is passed is told
 pub limit_told : (m : Model) (path : List ℕ) (name : LimitName) → IsFirstLimit m path name → ModelRefused m (refusal statuses.Limit (path ∷ limit_text name ∷ []))

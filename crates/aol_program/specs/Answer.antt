@@ -9,14 +9,14 @@ use Rattle.aol_model_types.specs.Places.{PlaceOf, place_text, limit_text}
 use Rattle.aol_model_types.specs.Reading.{Fault, grammar, limit, document_in}
 use Rattle.aol_model_types.specs.Rules.{first_misfit}
 use Rattle.aol_flat.specs.Accept.{IsSound, IsAccepted}
-use Rattle.aol_program.specs.declared.status.StatusKind.TheVariants.{Json, Grammar, Shape, Limit}
+use Rattle.aol_lines.specs.declared.status.StatusKind.TheVariants.{Json, Grammar, Shape, Limit}
 use Rattle.aol_program.specs.declared.words.Command.{Command}
 use Rattle.aol_program.specs.AcceptedAnswer.{AcceptedAnswers}
 use Rattle.aol_program.specs.ExecAnswer.{IsExecReply}
 use Rattle.aol_program.specs.ModelAnswer.{ModelRefused}
 use Rattle.aol_program.specs.Words.{subject_of}
 use Rattle.aol_program.specs.Words as subjects
-use Rattle.aol_program.specs.Reply.{ReplyOf, refusal}
+use Rattle.aol_lines.specs.Reply.{ReplyOf, refusal}
 
 -- to a document: its model breaks a rule, or is refused, or is accepted and the command is answered
 pub data DocumentAnswers (c : Command) (d : Document) : ReplyOf → Type 0 where

@@ -4,12 +4,12 @@ use Rattle.std.specs.Io.KnownBytes.{Keeps}
 use Rattle.aol_io.specs.Causes.{Rose}
 use Rattle.aol_io.specs.Streams.{WasAll, WasLong, TookAtMost}
 use Rattle.aol_program.specs.declared.program.TheConstants.{MAX_BYTES}
-use Rattle.aol_program.specs.declared.status.StatusKind.TheVariants.{Words, Read, Memory, Long}
+use Rattle.aol_lines.specs.declared.status.StatusKind.TheVariants.{Words, Read, Memory, Long}
 use Rattle.aol_program.specs.declared.status.Ran.{Ran}
 use Rattle.aol_program.specs.declared.words.Command.{Command}
-use Rattle.aol_program.specs.Status.{code_of}
+use Rattle.aol_lines.specs.Status.{code_of}
 use Rattle.aol_program.specs.Words.{Subject, subject_of, ReadsSource, Means, IsNoCommand}
-use Rattle.aol_program.specs.Reply.{ReplyOf, refusal, SinkEnds, Wrote}
+use Rattle.aol_lines.specs.Reply.{ReplyOf, refusal, SinkEnds, Wrote}
 use Rattle.aol_program.specs.Accept.{IsDocumentIn}
 use Rattle.aol_program.specs.Answer.{Answers}
 use Rattle.aol_program.specs.Ran.{HasRan}

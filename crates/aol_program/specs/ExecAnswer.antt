@@ -5,8 +5,8 @@ use Rattle.aol_model_types.specs.Places.{place_text, limit_text}
 use Rattle.aol_exec.specs.Answer.{Answer, wrong, past, long_memory, stuck, ended, Answers}
 use Rattle.aol_exec.specs.declared.job.JobRefused.{JobRefused}
 use Rattle.aol_exec.specs.declared.job.JobRefused.TheVariants as refusals
-use Rattle.aol_program.specs.declared.status.StatusKind.TheVariants.{Done, Grammar, Limit, Input, Stuck}
-use Rattle.aol_program.specs.Reply.{ReplyOf, reply, refusal}
+use Rattle.aol_lines.specs.declared.status.StatusKind.TheVariants.{Done, Grammar, Limit, Input, Stuck}
+use Rattle.aol_lines.specs.Reply.{ReplyOf, reply, refusal}
 
 -- the reply that tells an answer
 abbrev pub exec_reply : Answer → ReplyOf

@@ -1,10 +1,5 @@
 pub mod Words
-pub mod Status
-pub mod Reply
-pub mod Line
 pub mod Inputs
-pub mod Instance
-pub mod Lent
 pub mod Run
 pub mod Outputs
 pub mod Placed
@@ -16,9 +11,9 @@ pub mod ExecAnswer
 pub mod Answer
 pub mod Answered
 pub mod OneReply
-pub mod Refused
 pub mod ModelAnswer
 pub mod OneRefusal
 pub mod Checked
 pub mod AcceptedAnswer
 pub mod SoundDocument
+pub mod Made

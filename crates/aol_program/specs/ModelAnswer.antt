@@ -8,10 +8,10 @@ use Rattle.aol_flat.specs.Limits.{first_limit, IsBounded}
 use Rattle.aol_flat.specs.Node.{Node, node_path}
 use Rattle.aol_flat.specs.Reads.{Reading, AllGiven, IsFirstUnwritten}
 use Rattle.aol_flat.specs.Targets.{Twice, first_twice, IsSingleAssignment}
-use Rattle.aol_program.specs.declared.status.StatusKind.TheVariants as statuses
-use Rattle.aol_program.specs.Instance.{instance_text}
-use Rattle.aol_program.specs.Refused.{reading_words, twice_words}
-use Rattle.aol_program.specs.Reply.{ReplyOf, refusal}
+use Rattle.aol_lines.specs.declared.status.StatusKind.TheVariants as statuses
+use Rattle.aol_lines.specs.Instance.{instance_text}
+use Rattle.aol_lines.specs.Refused.{reading_words, twice_words}
+use Rattle.aol_lines.specs.Reply.{ReplyOf, refusal}
 
 -- a limit of the hierarchy; else a point that is written twice; else an element that is read and not given; else an instance that needs itself
 pub data ModelRefused (m : Model) : ReplyOf → Type 0 where

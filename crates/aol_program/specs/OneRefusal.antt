@@ -3,7 +3,7 @@ use Rattle.std.specs.Prelude.{◌≡◌}
 use Rattle.aol_model_types.specs.declared.document.Model.{Model}
 use Rattle.aol_flat.specs.Accept.{IsSound, IsAccepted}
 use Rattle.aol_program.specs.ModelAnswer.{ModelRefused}
-use Rattle.aol_program.specs.Reply.{ReplyOf}
+use Rattle.aol_lines.specs.Reply.{ReplyOf}
 
 -- a sound model has at most one refusal
 abbrev pub OneRefusal : Type 0

@@ -2,7 +2,7 @@
 use Rattle.std.specs.Prelude.{◌≡◌, ℕ, List}
 use Rattle.aol_program.specs.declared.words.Command.{Command}
 use Rattle.aol_program.specs.Words.{IsDetermined}
-use Rattle.aol_program.specs.Reply.{ReplyOf}
+use Rattle.aol_lines.specs.Reply.{ReplyOf}
 use Rattle.aol_program.specs.Answer.{Answers}
 
 -- to a determined command there is no second reply for the same bytes, so each status comes exactly where its cause holds

@@ -7,7 +7,7 @@ use Rattle.aol_model_types.specs.declared.document.Model.{Model}
 use Rattle.aol_flat.specs.InstanceValue.{first_fault}
 use Rattle.aol_flat.specs.Printed.{value_text}
 use Rattle.aol_runner.specs.declared.outputs.OutputArray.{OutputArray}
-use Rattle.aol_program.specs.Reply.{ReplyOf}
+use Rattle.aol_lines.specs.Reply.{ReplyOf}
 use Rattle.aol_program.specs.Run.{fault_or_lines}
 
 -- an output: its name, its shape, and its values in order of rank

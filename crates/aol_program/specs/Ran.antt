@@ -5,19 +5,20 @@ use Rattle.aol_flat.specs.Accept.{IsFlat}
 use Rattle.aol_flat.specs.Tasks.{main_inputs}
 use Rattle.aol_allocate.specs.Placement.{workers_of}
 use Rattle.aol_runner.specs.Run.{IsRunField}
+use Rattle.aol_transform.specs.Steps.{StepsTo}
 use Rattle.aol_program.specs.declared.status.Ran.{Ran}
-use Rattle.aol_program.specs.declared.status.StatusKind.TheVariants.{Done, Fault}
+use Rattle.aol_lines.specs.declared.status.StatusKind.TheVariants.{Done, Fault}
 use Rattle.aol_program.specs.declared.words.Command.{Command}
 use Rattle.aol_program.specs.declared.words.Command.TheVariants.{Run}
 use Rattle.aol_program.specs.Inputs.{given_arrays}
-use Rattle.aol_program.specs.Status.{code_of}
+use Rattle.aol_lines.specs.Status.{code_of}
 
--- the model is the document's, placed by its entries on so many workers, and the memory is that of its run over the document's inputs
+-- the model is the one that the document's steps make, placed by its entries on so many workers, and the memory is that of its run over the document's inputs
 pub record IsRan (d : Document) (workers : ℕ) (ran : Ran) : Type 0 where
   pub laid : IsFlat ran.flat
-  pub of_model : ran.flat.model ≡ d.model
+  pub made : StepsTo d.model d.job.transform ran.flat.model
   pub on_workers : ran.placed.workers ≡ workers
-  pub placed : ran.placed.of_instance ≡ workers_of d.model d.job.allocate workers
+  pub placed : ran.placed.of_instance ≡ workers_of ran.flat.model d.job.allocate workers
   pub memory : IsRunField ran.flat ran.placed.of_instance (given_arrays d.job.input (main_inputs d.model)) ran.memory
 
 -- the codes with which a call ends whose run came to its end

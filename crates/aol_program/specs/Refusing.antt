@@ -5,8 +5,8 @@ use Rattle.aol_program.specs.declared.words.Command.{Command}
 use Rattle.aol_program.specs.Accept.{IsCause}
 use Rattle.aol_program.specs.Answer.{TextAnswers}
 use Rattle.aol_program.specs.Ran.{IsRunCode}
-use Rattle.aol_program.specs.Reply.{ReplyOf}
-use Rattle.aol_program.specs.Status.{code_of}
+use Rattle.aol_lines.specs.Reply.{ReplyOf}
+use Rattle.aol_lines.specs.Status.{code_of}
 
 -- the reply to bytes that are refused so, whatever the command; its status isn't that of a run that came to its end
 pub record IsReplyTo (e : Refusal) (r : ReplyOf) : Type 0 where

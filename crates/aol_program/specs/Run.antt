@@ -6,8 +6,8 @@ use Rattle.aol_model_types.specs.declared.job.InputArray.{InputArray}
 use Rattle.aol_flat.specs.InstanceValue.{first_fault}
 use Rattle.aol_flat.specs.Equation.{Valuation, IsSolution}
 use Rattle.aol_flat.specs.Printed.{output_lines, main_values, fault_line}
-use Rattle.aol_program.specs.declared.status.StatusKind.TheVariants.{Done, Fault}
-use Rattle.aol_program.specs.Reply.{ReplyOf, reply}
+use Rattle.aol_lines.specs.declared.status.StatusKind.TheVariants.{Done, Fault}
+use Rattle.aol_lines.specs.Reply.{ReplyOf, reply}
 
 -- the line of the first fault, where there is one; else these lines
 abbrev pub fault_or_lines : Model → List ℕ → Option Site → ReplyOf

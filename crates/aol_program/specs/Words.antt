@@ -1,7 +1,7 @@
 -- The command that the words of a call name, and what it is about.
 use Rattle.std.specs.Prelude.{◌≡◌, ◌≤◌, ℕ, List, [], ◌∷◌, Option, Some, IsSome, codes, decimal}
 use Rattle.aol_program.specs.declared.words.Command.{Command}
-use Rattle.aol_program.specs.declared.words.Command.TheVariants.{Check, Print, Run, Place, Exec}
+use Rattle.aol_program.specs.declared.words.Command.TheVariants.{Check, Print, Transform, Run, Place, Exec}
 use Rattle.aol_allocate.specs.declared.limits.TheConstants.{MAX_WORKERS}
 
 -- a number of workers
@@ -13,6 +13,7 @@ pub record IsWorkers (n : ℕ) : Type 0 where
 abbrev pub Means : List (List ℕ) → Command → Type 0
 Means words Check = words ≡ codes "check" ∷ []
 Means words Print = words ≡ codes "print" ∷ []
+Means words Transform = words ≡ codes "transform" ∷ []
 Means words (Run n) = (words ≡ codes "run" ∷ decimal n ∷ []) × IsWorkers n
 Means words (Place n) = (words ≡ codes "place" ∷ decimal n ∷ []) × IsWorkers n
 Means words Exec = words ≡ codes "exec" ∷ []
@@ -30,6 +31,7 @@ pub data Subject : Type 0 where
 abbrev pub subject_of : Command → Option Subject
 subject_of Check = Some document
 subject_of Print = Some document
+subject_of Transform = Some document
 subject_of (Run n) = Some document
 subject_of (Place n) = Some document
 subject_of Exec = Some job
@@ -42,6 +44,7 @@ ReadsSource c = IsSome (subject_of c)
 abbrev pub IsDetermined : Command → Type 0
 IsDetermined Check = Unit {0}
 IsDetermined Print = Unit {0}
+IsDetermined Transform = Unit {0}
 IsDetermined (Run n) = Unit {0}
 IsDetermined (Place n) = Unit {0}
 IsDetermined Exec = Unit {0}

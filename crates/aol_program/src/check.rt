@@ -2,11 +2,9 @@
 
 ghost use Rattle.std.specs.Prelude.{◌≡◌, IfOk};
 ghost use Rattle.aol_program.specs.Checked.{accepted_line};
-ghost use Rattle.aol_program.specs.Reply.{reply, reply_of};
+ghost use Rattle.aol_lines.specs.Reply.{reply, reply_of};
 
-use crate::reply::Reply;
-use crate::status::StatusKind;
-use crate::text::{push_number, push_text};
+use aol_lines::{Reply, StatusKind, push_number, push_text};
 use aol_shape::NoMemory;
 use std::alloc::Global;
 

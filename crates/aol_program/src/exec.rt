@@ -4,12 +4,10 @@ ghost use Rattle.std.specs.Prelude.{IfOk};
 ghost use Rattle.serde_json.specs.View.{view};
 ghost use Rattle.aol_program.specs.Answer.{JsonAnswers};
 ghost use Rattle.aol_program.specs.ExecAnswer.{IsExecReply, IsLineOf};
-ghost use Rattle.aol_program.specs.Reply.{reply_of};
+ghost use Rattle.aol_lines.specs.Reply.{reply_of};
 
-use crate::line::{Word, refusal};
-use crate::reply::Reply;
-use crate::status::StatusKind;
 use aol_exec::{JobRefused, exec_answer};
+use aol_lines::{Reply, StatusKind, Word, refusal};
 use aol_shape::NoMemory;
 use serde_json::Value;
 use std::alloc::Global;

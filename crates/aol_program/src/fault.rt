@@ -7,14 +7,10 @@ ghost use Rattle.aol_vsl.specs.Text.{shape_text};
 ghost use Rattle.aol_model_types.specs.Rules.{task_name, outputs_of};
 ghost use Rattle.aol_flat.specs.Printed.{kind_text, fault_line};
 ghost use Rattle.aol_flat.specs.Tasks.{is_elementary};
-ghost use Rattle.aol_program.specs.Reply.{reply, reply_of};
+ghost use Rattle.aol_lines.specs.Reply.{reply, reply_of};
 
-use crate::instance::push_point;
-use crate::line::{Word, refusal};
-use crate::refused::{name_of, output};
-use crate::reply::Reply;
-use crate::status::StatusKind;
 use aol_expr::{Kind, Port, Site};
+use aol_lines::{Reply, StatusKind, Word, name_of, output, push_point, refusal};
 use aol_model::{Model, Task};
 use aol_shape::NoMemory;
 use std::alloc::Global;

@@ -6,10 +6,10 @@ ghost use Rattle.aol_model_types.specs.Rules.{inputs_of};
 ghost use Rattle.aol_flat.specs.Inputs.{numbers_named};
 ghost use Rattle.aol_flat.specs.Tasks.{main_inputs};
 ghost use Rattle.aol_program.specs.Inputs.{is_given, is_asked, first_unfit, first_unknown, first_wrong_input, given_arrays};
-ghost use Rattle.aol_program.specs.Lent.{lent_pair};
+ghost use Rattle.aol_lines.specs.Lent.{lent_pair};
 
-use crate::refused::main_task;
 use aol_expr::Port;
+use aol_lines::main_task;
 use aol_model::{InputArray, Model, Task};
 use aol_shape::{Items, NoMemory, is_same};
 use std::alloc::Global;

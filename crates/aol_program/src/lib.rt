@@ -15,18 +15,15 @@ mod check;
 mod exec;
 mod fault;
 mod inputs;
-mod instance;
 mod laws;
-mod line;
+mod made;
 mod place;
 mod print;
 mod printed;
 mod program;
-mod refused;
 mod refusing;
 mod reply;
 mod status;
-mod text;
 mod words;
 
 pub use accepting::{Accepted, Refusal, accept};
@@ -34,4 +31,5 @@ pub use laws::{
     accepted_have_no_cause, accepted_is_not_refused, there_is_one_refusal, there_is_one_reply,
 };
 pub use program::aol;
-pub use status::{Ran, Status, StatusKind};
+pub use aol_lines::StatusKind;
+pub use status::{Ran, Status};

@@ -1,23 +1,18 @@
 //! The lines of a placement.
 
-ghost use Rattle.std.specs.Prelude.{◌≡◌, ◌↔◌, IsTrue, [], ◌++◌, ◌∷◌, ◌+◌, ◌<◌, ◌≤◌, ◌^◌, length, take, drop, flat_map, decimal, string_bytes, OnOk, IfOk};
+ghost use Rattle.std.specs.Prelude.{◌≡◌, ◌++◌, ◌∷◌, ◌+◌, ◌<◌, ◌≤◌, ◌^◌, length, take, drop, flat_map, decimal, string_bytes, OnOk, IfOk};
 ghost use Rattle.aol_flat.specs.Instance.{instances};
 ghost use Rattle.aol_program.specs.Placed.{worker_text, place_lines};
 ghost use Rattle.aol_program.specs.Checked.{cause_words};
-ghost use Rattle.aol_program.specs.AcceptedAnswer.{PlaceAnswers, IsPlacedFor};
-ghost use Rattle.aol_program.specs.Reply.{refusal, reply, reply_of};
-ghost use Rattle.aol_program.specs.SoundDocument.{IsSoundDocument};
+ghost use Rattle.aol_program.specs.Made.{IsPlacedFor, IsPlaceReply};
+ghost use Rattle.aol_lines.specs.Reply.{refusal, reply, reply_of};
 ghost use Rattle.aol_program.specs.Words.{IsWorkers};
-ghost use Rattle.aol_flat.specs.Limits.{IsBounded};
 
-use crate::line::{Word, refusal};
-use crate::reply::Reply;
-use crate::status::StatusKind;
-use crate::text::{push_number, push_text};
 use aol_allocate::{PlaceCause, PlaceRefused, Placed, allocate};
 use aol_flat::Flat;
-use aol_model::Job;
-use aol_shape::NoMemory;
+use aol_lines::{Reply, StatusKind, Word, push_number, push_text, refusal};
+use aol_model::Entry;
+use aol_shape::{Items, NoMemory};
 use std::alloc::Global;
 
 /// Adds the workers of so many instances from one on, each after a blank.
@@ -88,28 +83,17 @@ fn entry_reply(alloc: Global, entry: u32, cause: &PlaceCause) -> Result<Reply, N
     }
 }
 
-/// Whether there are no steps.
-fn has_no_steps(job: &Job) -> bool
-    ensures { IsTrue result ↔ (job.now.transform ≡ []) }
-{
-    job.transform.is_empty()
-}
-
-/// The workers of the instances by a document's entries; or the refusal of its steps or of an entry.
+/// The workers of the instances by a job's entries; or the refusal of an entry.
 pub fn placed_or_refused(
     alloc: Global,
     flat: &Flat,
-    job: &Job,
+    entries: &Items<Entry>,
     workers: u32,
 ) -> Result<Result<Placed, Reply>, NoMemory>
     requires { IsWorkers workers }
-    ensures { IfOk result (IsPlacedFor (record { model = flat.now.model; job = job.now }) workers) }
+    ensures { IfOk result (IsPlacedFor flat.now.model entries.now workers) }
 {
-    if !has_no_steps(job) {
-        let reply = refusal(alloc, StatusKind::Unbuilt, &[])?;
-        return Ok(Err(reply));
-    }
-    match allocate(alloc, flat, &job.allocate, workers) {
+    match allocate(alloc, flat, entries, workers) {
         Ok(placed) => Ok(Ok(placed)),
         Err(PlaceRefused::Entry { entry, cause }) => {
             let reply = entry_reply(alloc, entry, &cause)?;
@@ -119,14 +103,18 @@ pub fn placed_or_refused(
     }
 }
 
-/// The reply to a placement.
-pub fn place_reply(alloc: Global, flat: &Flat, job: &Job, workers: u32) -> Result<Reply, NoMemory>
-    requires kept { IsSoundDocument flat.now.model job.now }
-    requires bounded { IsBounded flat.now.model }
-    requires workers { IsWorkers workers }
-    ensures { IfOk result (λ r. PlaceAnswers (record { model = flat.now.model; job = job.now }) workers (reply_of r)) }
+/// The reply to a placement of a model that is laid out.
+pub fn place_reply(
+    alloc: Global,
+    flat: &Flat,
+    entries: &Items<Entry>,
+    workers: u32,
+) -> Result<Reply, NoMemory>
+    requires { IsWorkers workers }
+    ensures { IfOk result (λ r. IsPlaceReply flat.now.model entries.now workers (reply_of r)) }
 {
-    let outcome = placed_or_refused(alloc, flat, job, workers)?;
+    let _model = flat.model();
+    let outcome = placed_or_refused(alloc, flat, entries, workers)?;
     match outcome {
         Ok(placed) => lines_of(alloc, flat, &placed),
         Err(reply) => Ok(reply),

@@ -4,13 +4,11 @@ ghost use Rattle.std.specs.Prelude.{◌≡◌, ◌++◌, flat_map, string_bytes,
 ghost use Rattle.aol_flat.specs.InstanceValue.{first_fault};
 ghost use Rattle.aol_flat.specs.Printed.{value_text};
 ghost use Rattle.aol_program.specs.Outputs.{array_line, values_of, outputs_reply};
-ghost use Rattle.aol_program.specs.Reply.{reply_of};
+ghost use Rattle.aol_lines.specs.Reply.{reply_of};
 
 use crate::fault::fault_reply;
-use crate::reply::Reply;
-use crate::status::StatusKind;
-use crate::text::{push_integer, push_shape, push_text};
 use aol_expr::{Site, Val};
+use aol_lines::{Reply, StatusKind, push_integer, push_shape, push_text};
 use aol_model::Model;
 use aol_runner::OutputArray;
 use aol_shape::NoMemory;

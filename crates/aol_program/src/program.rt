@@ -3,19 +3,20 @@ ghost use Rattle.aol_program.specs.Accept.{IsDocumentIn};
 ghost use Rattle.aol_program.specs.Answer.{Answers};
 ghost use Rattle.aol_program.specs.Answered.{IsAnswered};
 ghost use Rattle.aol_program.specs.Ran.{HasRan};
-ghost use Rattle.aol_program.specs.Reply.{Wrote, reply, reply_of};
-ghost use Rattle.aol_program.specs.Status.{code_of};
+ghost use Rattle.aol_lines.specs.Reply.{Wrote, reply, reply_of};
+ghost use Rattle.aol_lines.specs.Status.{code_of};
 ghost use Rattle.aol_program.specs.Words.{IsAsked, document, subject_of};
 
 use crate::accepted::accepted_answer;
 use crate::accepting::accept;
 use crate::exec::exec_reply;
 use crate::refusing::refused_reply;
-use crate::reply::{Answer, alone, written};
-use crate::status::{Status, StatusKind};
+use crate::reply::{Answer, alone};
+use crate::status::Status;
 use crate::words::Command;
 use aol_io::{ReadRefused, Sink, Source, read_all};
 use aol_level::Gate;
+use aol_lines::{StatusKind, written};
 use aol_shape::NoMemory;
 use std::alloc::Global;
 use std::marker::Sync;
@@ -70,9 +71,11 @@ fn answer<R: Threads + Sync, G: Gate>(
 {
     match command {
         Command::Exec => alone(exec_reply(alloc, bytes)),
-        Command::Check | Command::Print | Command::Run(_) | Command::Place(_) => {
-            document_answer(rt, alloc, command, bytes, gate)
-        }
+        Command::Check
+        | Command::Print
+        | Command::Transform
+        | Command::Run(_)
+        | Command::Place(_) => document_answer(rt, alloc, command, bytes, gate),
     }
 }
 

@@ -1,17 +1,8 @@
-ghost use Rattle.std.specs.Prelude.{◌≡◌};
 ghost use Rattle.aol_program.specs.Finished.{IsAlone};
-ghost use Rattle.aol_program.specs.Reply.{Wrote, reply};
 
-use crate::status::{Ran, StatusKind};
-use aol_io::{Sink, write_all};
+use crate::status::Ran;
+use aol_lines::Reply;
 use aol_shape::NoMemory;
-
-/// What is to be written, whole, and the status that it belongs to.
-#[derive(Debug, Drop)]
-pub struct Reply {
-    pub status: StatusKind,
-    pub text: String,
-}
 
 /// A reply, and what ran.
 #[derive(Drop)]
@@ -28,15 +19,4 @@ pub fn alone(reply: Result<Reply, NoMemory>) -> Result<Answer, NoMemory>
         Ok(reply) => Ok(Answer { reply, ran: None }),
         Err(error) => Err(error),
     }
-}
-
-/// Writes the text, and hands back the code of the status; that of a failed sink where the sink fails.
-pub fn written<K: Sink>(sink: &mut K, status: StatusKind, text: &[u8]) -> u8
-    ensures { Wrote (record { before = K.taken sink.old; after = K.taken sink.new; faults_before = K.faults sink.old; faults_after = K.faults sink.new }) (reply status text.now) result }
-{
-    let ended = match write_all(sink, text) {
-        Ok(()) => status,
-        Err(_) => StatusKind::Sink,
-    };
-    ended.code()
 }

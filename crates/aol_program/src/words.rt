@@ -13,6 +13,8 @@ pub enum Command {
     Print,
     /// The outputs of the model, by so many workers.
     Run(u32),
+    /// The document with the model that its transformations make, and none left.
+    Transform,
     /// Which of so many workers runs each instance.
     Place(u32),
     /// A program of the named subset of C, run in one order.
@@ -73,6 +75,9 @@ impl Command {
         }
         if are_texts(words, &["print"]) {
             return Some(Command::Print);
+        }
+        if are_texts(words, &["transform"]) {
+            return Some(Command::Transform);
         }
         if are_texts(words, &["exec"]) {
             return Some(Command::Exec);

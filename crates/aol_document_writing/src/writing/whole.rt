@@ -39,10 +39,19 @@ fn document_of(alloc: Global, model: &Model, job: &Job) -> Result<Value, NoMemor
     Ok(Value::Object(object))
 }
 
-/// The tree of a document, in version 2 and with canonical texts.
+/// The tree of a model and a job as one document, in version 2 and with canonical texts.
 ///
-/// Some trees stand for the model and the job. The tree that is made has its keys in byte order, its numbers in 64 bits
-/// and no floats, and is read as the same document.
+/// The tree that is made has its keys in byte order, its numbers in 64 bits and no floats.
+pub fn tree_of(alloc: Global, model: &Model, job: &Job) -> Result<Value, NoMemory>
+    ensures tree { IfOk result (λ v. view v ≡ document_tree model.now job.now) }
+    ensures held { IfOk result (λ v. is_tree (view v) ≡ true) }
+    ensures whole { IfOk result (λ v. has_float (view v) ≡ false) }
+{
+    let tree = document_of(alloc, model, job)?;
+    Ok(tree)
+}
+
+/// The same of a document for whose model and job some trees stand: it is read as the same document.
 pub fn value_of(alloc: Global, model: &Model, job: &Job) -> Result<Value, NoMemory>
     requires { IsReadable model.now job.now }
     ensures tree { IfOk result (λ v. view v ≡ document_tree model.now job.now) }
@@ -50,6 +59,6 @@ pub fn value_of(alloc: Global, model: &Model, job: &Job) -> Result<Value, NoMemo
     ensures whole { IfOk result (λ v. has_float (view v) ≡ false) }
     ensures again { IfOk result (λ v. document_in (view v) ≡ Ok (record { model = model.now; job = job.now })) }
 {
-    let tree = document_of(alloc, model, job)?;
+    let tree = tree_of(alloc, model, job)?;
     Ok(tree)
 }

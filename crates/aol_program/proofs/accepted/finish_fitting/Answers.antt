@@ -1,26 +1,29 @@
-use Rattle.std.proofs.Common.{◌≡◌, refl, subst}
-use Rattle.aol_program.specs.AcceptedAnswer.{IsPlacedFor, not_placed, run}
+use Rattle.std.proofs.Common.{◌≡◌, sym, subst}
 use Rattle.aol_program.specs.Accept.{document_with}
+use Rattle.aol_program.specs.AcceptedAnswer.{by_step, not_placed}
+use Rattle.aol_program.specs.Made.{IsMadeOf}
 use Rattle.aol_program.proofs.Checked.{inputs-fit}
-use Rattle.aol_program.proofs.Finishing.{unplaced_no_end}
-use Rattle.aol_program.proofs.RunReplies.{run_ended}
+use Rattle.aol_program.proofs.Finishing.{not_made_no_end, finished_by}
+use Rattle.aol_program.proofs.KeptRun.{inputs_fit}
 use Rattle.aol_program.proofs.accepted.finish_fitting.Goals as goal
 
-pub run_placed-requires-clause-fit : goal.run_placed-requires-clause-fit
-run_placed-requires-clause-fit g c = λ _ _. inputs-fit c.args.accepted.now.flat.model c.args.accepted.now.job.input c.requires.right
+pub run_made-requires-clause-accepted : goal.run_made-requires-clause-accepted
+run_made-requires-clause-accepted g c = (subst (IsMadeOf c.args.accepted.flat.model c.args.accepted.job.transform) c.in-Ok.is c.in_ok-outcome.ensures).keeps.accepted
 
-pub returns-in_ok-reply-in-Ok : goal.returns-in_ok-reply-in-Ok
-returns-in_ok-reply-in-Ok g c =
-    let a = c.args.accepted.now in
-    let d = document_with a.flat a.job in
-    let had = subst (IsPlacedFor d c.args.workers) c.in-Ok.is c.in_ok-outcome.ensures in (
-      run c.requires.right had.0 _ c.in_ok-reply-in-Ok.ensures.reply,
-      run_ended a.flat.model a.job.input _ c.in_ok-reply-in-Ok.ensures.reply,
-      record { laid = c.model-model.ensures.flat; of_model = refl; on_workers = had.1; placed = had.2; memory = c.in_ok-reply-in-Ok.ensures.memory },
-    )
+pub run_made-requires-clause-levels : goal.run_made-requires-clause-levels
+run_made-requires-clause-levels g c = (subst (IsMadeOf c.args.accepted.flat.model c.args.accepted.job.transform) c.in-Ok.is c.in_ok-outcome.ensures).levels
+
+pub run_made-requires-clause-fit : goal.run_made-requires-clause-fit
+run_made-requires-clause-fit g c =
+    inputs_fit (subst (IsMadeOf c.args.accepted.flat.model c.args.accepted.job.transform) c.in-Ok.is c.in_ok-outcome.ensures).made c.args.accepted.job.input
+    (inputs-fit c.args.accepted.flat.model c.args.accepted.job.input c.requires.right)
+
+pub returns-in-Ok : goal.returns-in-Ok
+returns-in-Ok g c =
+    finished_by c.args.accepted c.args.workers c.in-Ok.made c.run_made.result c.requires.accepted c.requires.right (subst (IsMadeOf c.args.accepted.flat.model c.args.accepted.job.transform) c.in-Ok.is c.in_ok-outcome.ensures) c.run_made.ensures
 
 pub returns-in-Err : goal.returns-in-Err
 returns-in-Err g c =
-    let d = document_with c.args.accepted.now.flat c.args.accepted.now.job in
-    let told = subst (IsPlacedFor d c.args.workers) c.in-Err.is c.in_ok-outcome.ensures in
-    (not_placed c.requires.right _ told, unplaced_no_end d _ told)
+    let d = document_with c.args.accepted.flat c.args.accepted.job in
+    let told = subst (IsMadeOf d.model d.job.transform) c.in-Err.is c.in_ok-outcome.ensures in
+    (not_placed c.requires.right _ (by_step _ told), not_made_no_end d.model d.job.transform _ told)

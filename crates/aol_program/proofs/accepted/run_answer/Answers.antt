@@ -1,9 +1,9 @@
 use Rattle.std.proofs.Common.{◌≡◌, sym, subst}
-use Rattle.aol_program.specs.declared.reply.Reply.{Reply}
+use Rattle.aol_lines.specs.declared.reply.Reply.{Reply}
 use Rattle.aol_program.specs.Accept.{document_with}
 use Rattle.aol_program.specs.AcceptedAnswer.{RunAnswers}
 use Rattle.aol_program.specs.Finished.{IsFinished}
-use Rattle.aol_program.specs.Reply.{reply_of}
+use Rattle.aol_lines.specs.Reply.{reply_of}
 use Rattle.aol_program.proofs.Finishing.{handed_back}
 use Rattle.aol_program.proofs.accepted.run_answer.Goals as goal
 

@@ -3,8 +3,8 @@ use Rattle.serde_json.specs.View.{view}
 use Rattle.serde_json.specs.Errors.{IsMemory}
 use Rattle.aol_program.specs.Answer.{JsonAnswers, no_json, tree}
 use Rattle.aol_program.specs.ExecAnswer.{IsExecReply}
-use Rattle.aol_program.specs.Reply.{refusal}
-use Rattle.aol_program.specs.declared.status.StatusKind.TheVariants.{Json}
+use Rattle.aol_lines.specs.Reply.{refusal}
+use Rattle.aol_lines.specs.declared.status.StatusKind.TheVariants.{Json}
 use Rattle.aol_program.proofs.Replies.{made_of, carried}
 use Rattle.aol_program.proofs.exec.exec_reply.Goals as goal
 

@@ -4,8 +4,8 @@ use Rattle.aol_program.specs.Accept.{IsDocumentIn}
 use Rattle.aol_program.specs.Answer.{Answers}
 use Rattle.aol_program.specs.Answered.{read_fault, too_long, answered, no_memory}
 use Rattle.aol_program.specs.Ran.{HasRan}
-use Rattle.aol_program.specs.Reply.{reply_of}
-use Rattle.aol_program.specs.Status.{code_of}
+use Rattle.aol_lines.specs.Reply.{reply_of}
+use Rattle.aol_lines.specs.Status.{code_of}
 use Rattle.aol_program.proofs.Commands.{reads, within, given-all}
 use Rattle.aol_program.proofs.Finishing.{ran_kept}
 use Rattle.aol_program.proofs.program.aol.Goals as goal

@@ -4,8 +4,8 @@ use Rattle.aol_program.specs.AcceptedAnswer.{AcceptedAnswers}
 use Rattle.aol_program.specs.Answer.{Answers, by_document}
 use Rattle.aol_program.specs.Ran.{HasRan}
 use Rattle.aol_program.specs.Refusing.{IsReplyTo}
-use Rattle.aol_program.specs.Reply.{reply_of}
-use Rattle.aol_program.specs.Status.{code_of}
+use Rattle.aol_lines.specs.Reply.{reply_of}
+use Rattle.aol_lines.specs.Status.{code_of}
 use Rattle.aol_program.proofs.Finishing.{accepted_bytes, document_bytes, ran_for}
 use Rattle.aol_program.proofs.Replies.{carried, carried_answer, alone_reply, alone_ran, none_ran}
 use Rattle.aol_program.proofs.program.document_answer.Goals as goal

@@ -1,0 +1,4 @@
+pub mod LineWords
+pub mod Instances
+pub mod Readers
+pub mod LeafTasks

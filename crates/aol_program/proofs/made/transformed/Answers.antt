@@ -1,0 +1,11 @@
+use Rattle.std.proofs.Common.{◌≡◌}
+use Rattle.aol_program.proofs.made.transformed.Goals as goal
+
+pub returns-in-Ok : goal.returns-in-Ok
+returns-in-Ok c = record { made = c.in-Ok.ensures.kept; keeps = c.in-Ok.ensures.agrees; writers = c.in-Ok.ensures.writers }
+
+pub step_reply-requires : goal.step_reply-requires
+step_reply-requires c = (c.args.flat.model, c.args.steps.now, c.in-Err.ensures.refused)
+
+pub returns-in_ok-reply : goal.returns-in_ok-reply
+returns-in_ok-reply c = c.in_ok-reply.ensures c.args.flat.model c.args.steps.now c.in-Err.ensures.refused

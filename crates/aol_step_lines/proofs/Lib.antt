@@ -1,0 +1,5 @@
+pub mod KeptReads
+pub mod OneMap
+pub mod OneReply
+pub mod Tellings
+pub mod Ends

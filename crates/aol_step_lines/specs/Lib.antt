@@ -1,0 +1,4 @@
+pub mod Words
+pub mod StepsReply
+pub mod Laws
+pub mod Told

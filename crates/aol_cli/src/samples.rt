@@ -71,3 +71,15 @@ pub const WIDE: &str =
 /// A program that adds two numbers, and the numbers.
 pub const PROGRAM: &str =
     r#"{"memory":[1,2],"order":"up","program":"/* AOL-C/1 */\ntypedef long long i64;\ni64 V[3];\ni64 F[3];\nvoid step_0_0(void) {\nV[2LL] = (V[0LL] + V[1LL]);\n}\nvoid step_0_1(void) {\n}\nvoid run(void) {\nstep_0_0();\nstep_0_1();\n}\n"}"#;
+
+/// A document of one repetition with a step that makes blocks of two.
+pub const TILED: &str =
+    r#"{"allocate":[],"input":{"x":[1,2,3,4,5,6,7,8,9,10]},"model":{"main":"Ten","tasks":[{"in":[{"name":"a","shape":"{}"}],"kind":"elementary","name":"Neg","out":[{"expr":"0-a{}","name":"s","shape":"{}"}]},{"in":[{"name":"x","shape":"{10}"}],"kind":"repeated","links":[],"name":"Ten","out":[{"name":"y","shape":"{10}"}],"space":"{10}","task":"Neg","tilers":[{"inner":"a","outer":"x","tiler":"(origin={0},paving={{1}},fitting={})"},{"inner":"s","outer":"y","tiler":"(origin={0},paving={{1}},fitting={})"}]}]},"transform":[{"block":"{2}","kind":"tile","outer":"{5}","task":"Ten"}],"version":2}"#;
+
+/// The document that its steps make.
+pub const BLOCKS: &str =
+    r#"{"allocate":[],"input":{"x":[1,2,3,4,5,6,7,8,9,10]},"model":{"main":"Ten","tasks":[{"in":[{"name":"a","shape":"{}"}],"kind":"elementary","name":"Neg","out":[{"expr":"0-a{}","name":"s","shape":"{}"}]},{"in":[{"name":"a","shape":"{2}"}],"kind":"repeated","links":[],"name":"Ten_1","out":[{"name":"s","shape":"{2}"}],"space":"{2}","task":"Neg","tilers":[{"inner":"a","outer":"a","tiler":"(origin={0},paving={{1}},fitting={})"},{"inner":"s","outer":"s","tiler":"(origin={0},paving={{1}},fitting={})"}]},{"in":[{"name":"x","shape":"{10}"}],"kind":"repeated","links":[],"name":"Ten","out":[{"name":"y","shape":"{10}"}],"space":"{5}","task":"Ten_1","tilers":[{"inner":"a","outer":"x","tiler":"(origin={0},paving={{2}},fitting={{1}})"},{"inner":"s","outer":"y","tiler":"(origin={0},paving={{2}},fitting={{1}})"}]}]},"transform":[],"version":2}"#;
+
+/// A document of two levels with a step that changes their paving, and loses a read.
+pub const WRAPPED: &str =
+    r#"{"allocate":[],"input":{"x":[1,2,3,4,5,6,7,8]},"model":{"main":"Wrap","tasks":[{"in":[{"name":"w","shape":"{2}"}],"kind":"elementary","name":"Win","out":[{"expr":"w{0}-w{1}","name":"s","shape":"{}"}]},{"in":[{"name":"m","shape":"{4}"}],"kind":"repeated","links":[],"name":"Mid","out":[{"name":"n","shape":"{4}"}],"space":"{4}","task":"Win","tilers":[{"inner":"w","outer":"m","tiler":"(origin={0},paving={{1}},fitting={{1}})"},{"inner":"s","outer":"n","tiler":"(origin={0},paving={{1}},fitting={})"}]},{"in":[{"name":"x","shape":"{8}"}],"kind":"repeated","links":[],"name":"Wrap","out":[{"name":"y","shape":"{8}"}],"space":"{2}","task":"Mid","tilers":[{"inner":"m","outer":"x","tiler":"(origin={0},paving={{4}},fitting={{1}})"},{"inner":"n","outer":"y","tiler":"(origin={0},paving={{4}},fitting={{1}})"}]}]},"transform":[{"block":"{2}","kind":"pave","outer":"{1}","task":"Wrap"}],"version":2}"#;

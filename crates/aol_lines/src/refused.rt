@@ -146,12 +146,7 @@ fn push_input(
 }
 
 /// Adds the words of an element of a main output.
-fn push_output(
-    text: &mut String,
-    model: &Model,
-    port: u32,
-    point: u32,
-) -> Result<(), NoMemory>
+fn push_output(text: &mut String, model: &Model, port: u32, point: u32) -> Result<(), NoMemory>
     requires { IsReadBy model.now Reader.Main port point }
     ensures { OnOk result (string_bytes text.new ≡ string_bytes text.old ++ after_blanks (port_words (main_outputs model.now) port point)) }
 {

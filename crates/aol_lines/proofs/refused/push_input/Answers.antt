@@ -1,25 +1,16 @@
-use Rattle.std.proofs.Common.{◌≡◌, List, ℕ, [], ◌∷◌, length, Option, Some, None, slice_get, codes, Bor, sym, ◌∙◌, ap, subst, arith}
-use Rattle.std.specs.Prelude.{IfOk}
+use Rattle.std.proofs.Common.{◌≡◌, List, ℕ, [], ◌∷◌, length, Option, Some, None, slice_get, codes, Bor, ◌++◌, string_bytes, sym, ◌∙◌, ap, arith}
+use Rattle.std.proofs.lemmas.Result.{on_ok_weaker}
 use Rattle.std.specs.Option.{option_copied}
 use Rattle.std.proofs.lemmas.Option.{slice_get_within}
-use Rattle.aol_shape.specs.Shape.{point_at}
-use Rattle.aol_vsl.specs.Text.{shape_text}
 use Rattle.aol_expr_tree.specs.declared.port.Port.{Port}
 use Rattle.aol_model_types.specs.declared.document.Model.{Model}
 use Rattle.aol_model_types.specs.Rules.{inputs_of}
 use Rattle.aol_flat.specs.Instance.{leaves, instances}
-use Rattle.aol_lines.specs.declared.status.StatusKind.TheVariants as statuses
-use Rattle.aol_lines.specs.Instance.{instance_text}
+use Rattle.aol_lines.specs.Line.{after_blanks}
 use Rattle.aol_lines.specs.Refused.{input_among}
-use Rattle.aol_lines.specs.Reply.{refusal, reply_of}
 use Rattle.aol_lines.proofs.Readers.{reads_there, same_point, some_there}
 use Rattle.aol_lines.proofs.LeafTasks.{IsTaskInput, IsInputOf, copy_input, task_input, input_of}
 use Rattle.aol_lines.proofs.refused.push_input.Goals as goal
-
-pub instance_name-requires : goal.instance_name-requires
-instance_name-requires c =
-    let i = reads_there c.args.flat.now.model c.args.instance c.args.port c.args.point c.requires in
-    slice_get_within (instances c.args.flat.now.model) c.args.instance i.instance i.at
 
 pub leaf_with-requires : goal.leaf_with-requires
 leaf_with-requires c =
@@ -32,11 +23,9 @@ leaf-leaf-requires c = slice_get_within (leaves c.args.flat.now.model) c.leaf_wi
 pub returns-in-Copy : goal.returns-in-Copy
 returns-in-Copy c =
     let m = c.args.flat.now.model in
-    let words : c.as_str.result.now ∷ codes "from" ∷ codes "{}" ∷ [] ≡ instance_text m c.args.instance ∷ input_among m (leaves m) c.args.instance c.args.port c.args.point =
-    ap (λ (n : List ℕ). n ∷ codes "from" ∷ codes "{}" ∷ []) (c.as_str.ensures.value ∙ c.in_ok-name.ensures)
-    ∙ ap (λ (ws : List (List ℕ)). instance_text m c.args.instance ∷ ws)
-    (copy_input m c.args.instance c.leaf_with.result c.leaf-leaf.result.now c.args.port c.args.point c.leaf_with.ensures c.leaf-leaf.ensures c.in-Copy.is) in
-    subst (λ (ws : List (List ℕ)). IfOk c.refusal.result (λ r. reply_of r ≡ refusal statuses.Unwritten ws)) words c.refusal.ensures
+    let words : codes "from" ∷ codes "{}" ∷ [] ≡ input_among m (leaves m) c.args.instance c.args.port c.args.point =
+    copy_input m c.args.instance c.leaf_with.result c.leaf-leaf.result.now c.args.port c.args.point c.leaf_with.ensures c.leaf-leaf.ensures c.in-Copy.is in
+    on_ok_weaker c.push_words.result (λ more. more ∙ ap (λ ws. string_bytes c.args.text.now ++ after_blanks ws) words) c.push_words.ensures
 
 pub bounds-as_slice-number : goal.bounds-as_slice-number
 bounds-as_slice-number c =
@@ -57,8 +46,8 @@ unreachable-requires c =
     let none : slice_get (inputs_of t) c.args.port ≡ None = sym c.input.ensures ∙ ap (λ (o : Option (Bor Port)). option_copied o) c.in_default.is in
     some_there (inputs_of t) c.args.port c.args.point o.point none
 
-pub port_reply-requires : goal.port_reply-requires
-port_reply-requires c =
+pub push_port-requires : goal.push_port-requires
+push_port-requires c =
     let m = c.args.flat.now.model in
     let t = c.index-as_slice-number.result in
     let i : IsTaskInput m c.args.instance c.args.port c.args.point c.in-Elementary.number =
@@ -68,8 +57,8 @@ port_reply-requires c =
     let there : slice_get (inputs_of t) c.args.port ≡ Some c.in-Some.read.now = sym c.input.ensures ∙ ap (λ (o : Option (Bor Port)). option_copied o) c.in-Some.is in
     same_point (inputs_of t) c.args.port c.args.point c.in-Some.read.now o.point there
 
-pub returns : goal.returns
-returns c =
+pub returns-in-Some : goal.returns-in-Some
+returns-in-Some c =
     let m = c.args.flat.now.model in
     let t = c.index-as_slice-number.result in
     let i : IsTaskInput m c.args.instance c.args.port c.args.point c.in-Elementary.number =
@@ -77,8 +66,4 @@ returns c =
     let same : c.as_slice.result.now ≡ m.tasks = c.as_slice.ensures ∙ ap (λ (n : Model). n.tasks) c.model.ensures.same in
     let o : IsInputOf m c.args.instance c.args.port c.args.point t = input_of m c.args.instance c.args.port c.args.point c.in-Elementary.number t c.as_slice.result.now same c.index-as_slice-number.is i in
     let there : slice_get (inputs_of t) c.args.port ≡ Some c.in-Some.read.now = sym c.input.ensures ∙ ap (λ (o : Option (Bor Port)). option_copied o) c.in-Some.is in
-    let words : c.as_str-in-Elementary.result.now ∷ c.in-Some.read.now.name ∷ shape_text (point_at c.in-Some.read.now.shape c.args.point) ∷ []
-    ≡ instance_text m c.args.instance ∷ input_among m (leaves m) c.args.instance c.args.port c.args.point =
-    ap (λ (n : List ℕ). n ∷ c.in-Some.read.now.name ∷ shape_text (point_at c.in-Some.read.now.shape c.args.point) ∷ []) (c.as_str-in-Elementary.ensures.value ∙ c.in_ok-name.ensures)
-    ∙ ap (λ (ws : List (List ℕ)). instance_text m c.args.instance ∷ ws) (o.words c.in-Some.read.now there) in
-    subst (λ (ws : List (List ℕ)). IfOk c.port_reply.result (λ r. reply_of r ≡ refusal statuses.Unwritten ws)) words c.port_reply.ensures
+    on_ok_weaker c.push_port.result (λ more. more ∙ ap (λ ws. string_bytes c.args.text.now ++ after_blanks ws) (o.words c.in-Some.read.now there)) c.push_port.ensures

@@ -20,11 +20,13 @@ last_is cs c d k end = ap (λ i. get_or (cs ++ c ∷ []) i d) end ∙ get_or-app
 -- the first cursors, and the next one after them
 pub first_next : (f : Laid) (cs new : List CursorOf) (c : CursorOf) (n : ℕ) → length cs ≡ n → AreFirst f cs → new ≡ cs ++ c ∷ [] → c ≡ record { flat = f; leaf = n } → (length new ≡ n + 1) × AreFirst f new
 first_next f cs new c n many first more is =
-    let long : length new ≡ n + 1 = omega (arith, ap length more, length-append cs (c ∷ []), many) in
-    (long, λ k d low. ap (λ (l : List CursorOf). get_or l k d) more ∙ let up : k ≤ n = omega (arith, low, long) in elim (eq-or-lt_of_le up) [
-      | inl e ↦ last_is cs c d k (omega (arith, e, many)) ∙ (is ∙ ap (λ (i : ℕ). record { flat = f; leaf = i }) (sym e))
-      | inr e ↦ get_or_append_left cs (c ∷ []) d k (omega (arith, e, many)) ∙ first k d (omega (arith, e, many))
-    ])
+    let long : length new ≡ n + 1 = omega (arith, ap length more, length-append cs (c ∷ []), many) in (
+      long,
+      λ k d low. ap (λ (l : List CursorOf). get_or l k d) more ∙ let up : k ≤ n = omega (arith, low, long) in elim (eq-or-lt_of_le up) [
+        | inl e ↦ last_is cs c d k (omega (arith, e, many)) ∙ (is ∙ ap (λ (i : ℕ). record { flat = f; leaf = i }) (sym e))
+        | inr e ↦ get_or_append_left cs (c ∷ []) d k (omega (arith, e, many)) ∙ first k d (omega (arith, e, many))
+      ],
+    )
 
 -- no leaf so far has more, nor has the next one
 pub most_next : (each : ℕ → ℕ) (n old new one : ℕ) → ((k : ℕ) → k < n → each k ≤ old) → old ≤ new → one ≤ new → one ≡ each n → (k : ℕ) → k < n + 1 → each k ≤ new

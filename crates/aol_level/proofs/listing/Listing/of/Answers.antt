@@ -1,4 +1,4 @@
-use Rattle.std.proofs.Common.{◌≡◌, ℕ, ◌<◌, ◌+◌, ◌≤◌, ◌∙◌, ap, arith}
+use Rattle.std.proofs.Common.{◌∙◌, ap}
 use Rattle.aol_flat.specs.Cursor.{CursorOf}
 use Rattle.aol_flat.specs.LeafCursor.{writes_each}
 use Rattle.aol_level.proofs.Cursored.{first_next, most_next, max_above}

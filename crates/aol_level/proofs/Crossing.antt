@@ -14,7 +14,9 @@ use Rattle.aol_shape.proofs.Items.TheSendSync as items
 use Rattle.aol_shape.proofs.shape.Shape.TheSendSync as shapes
 use Rattle.aol_expr_tree.proofs.op.ExprOp.TheSendSync as ops
 use Rattle.aol_flat.proofs.Crossing.{inside_syncs}
+use Rattle.aol_flat.proofs.route.Route.TheSendSync as routes
 use Rattle.aol_flat.specs.contracts.flat.Flat as flat
+use Rattle.aol_flat.specs.contracts.route.Route as route
 use Rattle.aol_flat.specs.contracts.view.Read as read
 use Rattle.aol_flat.specs.contracts.leaf_cursor.LeafReads as reads
 use Rattle.aol_flat.specs.contracts.leaf_cursor.LeafReads.TheInside as inside
@@ -40,8 +42,11 @@ flat_syncs = search (sendable, inside_syncs) depth 14
 along_field_sends : (a : NamedLft) → IsSend (along.the_field a).row
 along_field_sends a = struct_send (shape (along.the_type a)) (search (sendable, flat_syncs), (search sendable, (search sendable, (search (sendable, vecs.the_send, globals.the_send, allocators.the_frees), tt))))
 
+route_sends : (a : NamedLft) → IsSend (route.the_row a)
+route_sends a = routes.the_send a
+
 inside_field_sends : (a : NamedLft) → IsSend (inside.the_field a).row
-inside_field_sends a = struct_send (shape (inside.the_type a)) (search (sendable, along_field_sends), (search sendable, tt))
+inside_field_sends a = struct_send (shape (inside.the_type a)) (search (sendable, along_field_sends), (search sendable, (search (sendable, vecs.the_send, globals.the_send, allocators.the_frees, route_sends), (search sendable, tt))))
 
 reads_send : (a : NamedLft) → IsSend (reads.the_row a)
 reads_send a = search (sendable, inside_field_sends) depth 20

@@ -1,5 +1,5 @@
 -- Where a read ends: the main input, or the output of an instance, that is told.
-use Rattle.std.proofs.Common.{◌≡◌, ℕ, ◌-◌, ◌<◌, ◌≤◌, nat_lt, true, false, List, [], ◌∷◌, take, length, get_or, Option, Some, None, slice_get, option_map, option_and_then, unwrap_or, sym, ◌∙◌, ap, refl, arith, subst}
+use Rattle.std.proofs.Common.{◌≡◌, ℕ, zero, suc, ◌-◌, ◌<◌, ◌≤◌, nat_lt, true, false, List, [], ◌∷◌, take, length, get_or, Option, Some, None, slice_get, option_map, option_and_then, unwrap_or, sym, ◌∙◌, ap, refl, arith, subst}
 use Rattle.std.proofs.lemmas.Bool.{lt-ltb, le-ltb}
 use Rattle.std.proofs.lemmas.Option.{slice_get-map, slice_get_within}
 use Rattle.aol_shape.specs.Shape.{size, point_at, IsPointOf, rank}
@@ -83,6 +83,16 @@ made_end m p _ j k x (at_output o n at) h =
 made_end m p e j k x (by_following {q = q} f d) h = made_end m q e j k x d h
 made_end m p e j k x (by_copying {q = q} f d) h = made_end m q e j k x d h
 
+-- there is a main task, whose inputs have the point
+pub no_main : (m : Model) (k x : ℕ) → IsMainEnd m k x → main_task m ≡ None → ⊥
+no_main m k x e none = let both : Some e.task ≡ None = sym e.main ∙ none in cc
+
+pub main_point : (m : Model) (t : Task) (k x : ℕ) → main_task m ≡ Some t → IsMainEnd m k x → HasPoint (inputs_of t) k x
+main_point m t k x at e =
+    let both : Some e.task ≡ Some t = sym e.main ∙ at in
+    let one : e.task ≡ t = cc in
+    subst (λ (u : Task). HasPoint (inputs_of u) k x) one e.point
+
 -- ---- its words
 
 -- the words of a main input's element
@@ -94,7 +104,7 @@ main_words m t port k x main at =
 output_told : (m : Model) (ls : List Leaf) (n j : ℕ) (l : Leaf) (k x : ℕ) → slice_get ls n ≡ Some l → instances_of (take n ls) ≤ j → j - instances_of (take n ls) < size l.space
     → output_among m ls j k x ≡ port_words (unwrap_or (option_map outputs_of (node_task m l.node)) []) k x
 output_told m [] n j l k x at after within = cc
-output_told m (y ∷ ls) 0 j l k x at after within =
+output_told m (y ∷ ls) zero j l k x at after within =
     let e : y ≡ l = cc in
     let first : nat_lt j (size y.space) ≡ true = lt-ltb j (size y.space) (omega (arith, within, ap (λ (z : Leaf). size z.space) e)) in
     rw first (ap (λ (z : Leaf). port_words (unwrap_or (option_map outputs_of (node_task m z.node)) []) k x) e)

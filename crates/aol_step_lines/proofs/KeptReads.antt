@@ -1,5 +1,5 @@
 -- A model that keeps another keeps each of its reads.
-use Rattle.std.proofs.Common.{◌≡◌, ℕ, ◌+◌, List, flat_map, Option, Some, slice_get, option_and_then, sym, ◌∙◌, ap, arith, inl, inr, subst}
+use Rattle.std.proofs.Common.{◌≡◌, ℕ, zero, suc, ◌+◌, List, [], ◌∷◌, flat_map, Option, Some, slice_get, option_and_then, sym, ◌∙◌, ap, arith, inl, inr, subst}
 use Rattle.std.specs.Prelude.{slice_index}
 use Rattle.std.specs.List.{IsAmong, enumerate_from}
 use Rattle.std.proofs.lemmas.Option.{slice_get_within}
@@ -28,7 +28,7 @@ reader_is : (who : Reader) (rs : List Reading) (ps : List (ℕ × ℕ)) (es : Li
 reader_is who [] ps es a n r h = cc
 reader_is who (s ∷ rs) [] es a n r h = absurd a
 reader_is who (s ∷ rs) (q ∷ ps) [] a n r h = absurd a
-reader_is who (s ∷ rs) (q ∷ ps) (x ∷ es) a 0 r h = let f : r ≡ s = cc in ap (λ (y : Reading). y.reader) f ∙ ap (λ (y : Reading). y.reader) a.0
+reader_is who (s ∷ rs) (q ∷ ps) (x ∷ es) a zero r h = let f : r ≡ s = cc in ap (λ (y : Reading). y.reader) f ∙ ap (λ (y : Reading). y.reader) a.0
 reader_is who (s ∷ rs) (q ∷ ps) (x ∷ es) a (suc n) r h = reader_is who rs ps es a.1 n r h
 
 stands : (who : Reader) (rs : List Reading) (ps : List (ℕ × ℕ)) (es : List Element) → Aligned who rs ps es → (r : Reading) → IsAmong rs r → StandsIn who es r
@@ -37,7 +37,7 @@ stands who rs ps es line r a =
     record { by = reader_is who rs ps es line a.0 r at; there = get_among es a.0 r.element (aligned_element who rs ps es line a.0 r at) }
 
 module _ (old new : Model) (old_of : List ℕ) (sound : IsSound new) (alike : AreAlike old new old_of) (keeps : Keeps old new old_of) where
-  IsKept : Reading → Type 0
+  abbrev pub IsKept : Reading → Type 0
   IsKept r = ReadingIsKept old new old_of r
 
   by_instance : (j : ℕ) (i : Instance) → slice_get (instances new) j ≡ Some i → (r : Reading) → IsAmong (instance_readings new (j, i)) r → IsKept r

@@ -84,6 +84,10 @@ lost_one m next old_of r q e f a b =
     let Q : Element → Type 0 = λ x. EndsAt m x e in
     (one, b.only e (subst Q element a.first.ends))
 
+-- the line of a read that is lost
+abbrev lost_line : Model → ℕ → Model → Reading → End → ReplyOf
+lost_line m number next r e = refusal Transform (decimal number ∷ codes "lost" ∷ (reading_words next r.reader r.port r.rank ++ codes "needs" ∷ end_words m e))
+
 reply_one : (m : Model) (number : ℕ) (s : Step) (r q : ReplyOf) → StepReply m number s r → StepReply m number s q → r ≡ q
 reply_one m number s _ _ (unbuilt h) (unbuilt g) = refl
 reply_one m number s _ _ (unbuilt h) (no_model why g some) = absurd (not_both (proposed m s) (Refused why) h g)
@@ -101,7 +105,10 @@ reply_one m number s _ _ (written_twice a p t h) (no_model why g some) = absurd 
 reply_one m number s _ _ (written_twice a p t h) (written_twice b o u g) =
     let same : a ≡ b = made_one m s a b p o in
     let one : t ≡ u = found_one (first_twice a) t u h (ap first_twice same ∙ g) in
-    ap (λ (x : Model × Twice). refusal Transform (decimal number ∷ codes "twice" ∷ twice_words x.0 x.1)) (rw (same, one) refl)
+    twice a b same t u one
+  where
+    twice : (a b : Model) → a ≡ b → (t u : Twice) → t ≡ u → refusal Transform (decimal number ∷ codes "twice" ∷ twice_words a t) ≡ refusal Transform (decimal number ∷ codes "twice" ∷ twice_words b u)
+    twice a b x t u y = rw (x, y) refl
 reply_one m number s _ _ (written_twice a p t h) (lost b o single old_of map r e l) = absurd (none_twice a (subst IsSingleAssignment (made_one m s b a o p) single) t h)
 reply_one m number s _ _ (lost a p single old_of map r e l) (unbuilt g) = absurd (not_both (proposed m s) (Changed a) g p.makes)
 reply_one m number s _ _ (lost a p single old_of map r e l) (no_model why g some) = absurd (made_or_not m s a why p g)
@@ -111,12 +118,8 @@ reply_one m number s _ _ (lost a p single old_of map r e l) (lost b o alone othe
     let maps : old_of ≡ others = same_map m s a b old_of others same map other in
     let moved : IsLost m a old_of q f = subst (λ x. IsLost m x old_of q f) (sym same) (subst (λ x. IsLost m b x q f) (sym maps) k) in
     let both = lost_one m a old_of r q e f l moved in
-    words a b same r q e f both.0 both.1
-  where
-    words : (a b : Model) → a ≡ b → (r q : Reading) (e f : End) → r ≡ q → e ≡ f
-        → refusal Transform (decimal number ∷ codes "lost" ∷ (reading_words a r.reader r.port r.rank ++ codes "needs" ∷ end_words m e))
-        ≡ refusal Transform (decimal number ∷ codes "lost" ∷ (reading_words b q.reader q.port q.rank ++ codes "needs" ∷ end_words m f))
-    words a b x r q e f y z = rw (x, y, z) refl
+    subst (λ x. lost_line m number a r e ≡ lost_line m number x r e) same refl
+    ∙ (subst (λ x. lost_line m number b r e ≡ lost_line m number b x e) both.0 refl ∙ subst (λ x. lost_line m number b q e ≡ lost_line m number b q x) both.1 refl)
 
 -- ---- lists of steps
 
@@ -132,12 +135,12 @@ told_one : (m : Model) (before others : List Step) (s t : Step) (after rest : Li
 told_one m [] [] s t after rest _ _ shift r q e none none told other =
     let step : s ≡ t = cc in
     reply_one m (shift + 0) s r q told (subst (λ x. StepReply m (shift + 0) x q) (sym step) other)
-told_one m [] (t' ∷ others) s t after rest _ b shift r q e none (more k l) told other =
+told_one m [] (t' ∷ others) s t after rest _ b shift r q e none (more {next = n} k l) told other =
     let step : s ≡ t' = cc in
-    absurd (kept_or_not m (shift + 0) s _ r (subst (λ x. IsKept m x _) (sym step) k) told)
-told_one m (s' ∷ before) [] s t after rest a _ shift r q e (more k l) none told other =
+    absurd (kept_or_not m (shift + 0) s n r (subst (λ x. IsKept m x n) (sym step) k) told)
+told_one m (s' ∷ before) [] s t after rest a _ shift r q e (more {next = n} k l) none told other =
     let step : s' ≡ t = cc in
-    absurd (kept_or_not m (shift + 0) t _ q (subst (λ x. IsKept m x _) step k) other)
+    absurd (kept_or_not m (shift + 0) t n q (subst (λ x. IsKept m x n) step k) other)
 told_one m (s' ∷ before) (t' ∷ others) s t after rest a b shift r q e (more {next = n} k l) (more {next = o} h g) told other =
     let step : s' ≡ t' = cc in
     let lists : before ++ s ∷ after ≡ others ++ t ∷ rest = cc in
@@ -148,15 +151,18 @@ told_one m (s' ∷ before) (t' ∷ others) s t after rest a b shift r q e (more 
     (subst (λ x. StepReply a x s r) first told) (subst (λ x. StepReply b x t q) second other)
 
 pub one_steps_reply : OneStepsReply
-one_steps_reply m steps r q a b = told_one m a.before b.before a.step b.step a.after b.after a.made b.made 0 r q (sym a.list ∙ b.list) a.kept b.kept a.told b.told
+one_steps_reply m steps r q a b =
+    let first : length a.before ≡ 0 + length a.before = omega arith in
+    let second : length b.before ≡ 0 + length b.before = omega arith in
+    told_one m a.before b.before a.step b.step a.after b.after a.made b.made 0 r q (sym a.list ∙ b.list) a.kept b.kept (subst (λ n. StepReply a.made n a.step r) first a.told) (subst (λ n. StepReply b.made n b.step q) second b.told)
 
 -- where all are kept none is told
 kept_told : (m : Model) (steps before : List Step) (s : Step) (after : List Step) (last a : Model) (number : ℕ) (r : ReplyOf) → steps ≡ before ++ s ∷ after → StepsTo m steps last → StepsTo m before a → StepReply a number s r → ⊥
 kept_told m [] [] s after last a number r e h none told = cc
 kept_told m [] (x ∷ before) s after last a number r e h k told = cc
-kept_told m (t ∷ steps) [] s after last _ number r e (more k h) none told =
+kept_told m (t ∷ steps) [] s after last _ number r e (more {next = n} k h) none told =
     let step : t ≡ s = cc in
-    kept_or_not m number s _ r (subst (λ x. IsKept m x _) step k) told
+    kept_or_not m number s n r (subst (λ x. IsKept m x n) step k) told
 kept_told m (t ∷ steps) (u ∷ before) s after last a number r e (more {next = n} k h) (more {next = o} l g) told =
     let step : t ≡ u = cc in
     let lists : steps ≡ before ++ s ∷ after = cc in

@@ -47,6 +47,10 @@ of_cause e r tells m steps first =
       told = subst (λ n. StepReply first.made n first.step r) first.many (tells first.made first.step first.is_cause);
     }
 
+-- the cause is one of a step
+pub cause_told : (e : StepsRefused) (cause : StepCause) → e.cause ≡ cause → (m : Model) (steps : List Step) (first : IsFirstCause m steps e.step e.cause) → IsCause first.made first.step cause
+cause_told e cause is m steps first = subst (IsCause first.made first.step) is first.is_cause
+
 -- where the reply that is made is this one
 pub made_so : (e : StepsRefused) (cause : StepCause) (made : Result Reply NoMemory) (q : ReplyOf) → e.cause ≡ cause → IfOk made (λ x. reply_of x ≡ q) → TellsCause cause e.step q → IfOk made (λ x. IsReplyOf e (reply_of x))
 made_so e cause (Ok x) q is same tells = subst (IsReplyOf e) (sym same) (of_cause e q (subst (λ c. TellsCause c e.step q) (sym is) tells))

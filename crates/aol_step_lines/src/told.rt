@@ -19,7 +19,9 @@ use aol_assign::AssignRefused;
 use aol_change::StepRefused;
 use aol_equiv::Lost;
 use aol_flat::{End, Flat, Reader};
-use aol_lines::{Reply, StatusKind, Word, begun, ended, push_reading, push_twice, push_words, refusal};
+use aol_lines::{
+    Reply, StatusKind, Word, begun, ended, push_reading, push_twice, push_words, refusal,
+};
 use aol_shape::{Name, NoMemory};
 use aol_transform::{StepCause, StepsRefused};
 use std::alloc::Global;

@@ -38,14 +38,14 @@ IsTransformed m steps (Ok t) = AreTaken m steps t
 IsTransformed m steps (Err r) = StepsReply m steps (reply_of r)
 
 -- steps that are kept make this model, with the level of each instance
-pub record IsLevelled (m : Model) (steps : List Step) (made : Made) : Type 0 where
-  pub made : StepsTo m steps made.flat.model
-  pub keeps : KeepsOutputs m made.flat.model
-  pub levels : AreLevelsOf made.flat.model made.levels
+pub record IsLevelled (m : Model) (steps : List Step) (t : Made) : Type 0 where
+  pub made : StepsTo m steps t.flat.model
+  pub keeps : KeepsOutputs m t.flat.model
+  pub levels : AreLevelsOf t.flat.model t.levels
 
 -- the model that the steps make; or the reply where one isn't kept
 abbrev pub IsMadeOf : Model → List Step → Result Made Reply → Type 0
-IsMadeOf m steps (Ok made) = IsLevelled m steps made
+IsMadeOf m steps (Ok t) = IsLevelled m steps t
 IsMadeOf m steps (Err r) = StepsReply m steps (reply_of r)
 
 -- the workers of a model's instances by the entries

@@ -21,7 +21,7 @@ ghost use Rattle.aol_program.specs.Words.{IsAsked, IsWorkers, document, subject_
 use crate::accepting::Accepted;
 use crate::check::accepted_reply;
 use crate::inputs::{given_arrays, main_inputs, wrong_input};
-use crate::made::{Made, made, transformed};
+use crate::made::{Made, levelled, transformed};
 use crate::place::{place_reply, placed_or_refused};
 use crate::print::print_reply;
 use crate::printed::outputs_reply;
@@ -194,7 +194,7 @@ fn finish_fitting<R: Threads + Sync, G: Gate>(
         levels,
         job,
     } = accepted;
-    let outcome = made(alloc, flat, writers, levels, job.transform.as_slice())?;
+    let outcome = levelled(alloc, flat, writers, levels, job.transform.as_slice())?;
     match outcome {
         Ok(made) => run_made(rt, alloc, made, &job, workers, gate),
         Err(reply) => Ok(Err(reply)),

@@ -65,7 +65,7 @@ fn are_none(steps: &[Step]) -> bool
 }
 
 /// The model that the steps make of an accepted one, with its levels; or the reply to the first that isn't kept.
-pub fn made(
+pub fn levelled(
     alloc: Global,
     flat: Flat,
     writers: Writers,

@@ -1,7 +1,7 @@
 use Rattle.std.proofs.Common.{◌≡◌, [], sym, subst, rules}
 use Rattle.aol_program.specs.Made.{AreTaken, IsTransformed, IsMadeOf}
 use Rattle.aol_program.proofs.KeptRun.{no_steps_level}
-use Rattle.aol_program.proofs.made.made.Goals as goal
+use Rattle.aol_program.proofs.made.levelled.Goals as goal
 
 pub returns-then-are_none : goal.returns-then-are_none
 returns-then-are_none c =

@@ -12,3 +12,4 @@ pub mod Finding
 pub mod Gathering
 pub mod AddedRow
 pub mod Gathered
+pub mod InOrder

@@ -2,3 +2,4 @@ pub mod Rows
 pub mod Needs
 pub mod Search
 pub mod Gather
+pub mod InOrder

@@ -12,6 +12,7 @@
 
 mod find;
 mod gather;
+mod in_order;
 mod level_list;
 mod needs;
 mod refused;

@@ -13,3 +13,5 @@ pub mod Gathering
 pub mod AddedRow
 pub mod Gathered
 pub mod InOrder
+pub mod MainReads
+pub mod FirstLevels

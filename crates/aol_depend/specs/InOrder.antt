@@ -1,9 +1,11 @@
 -- Levels of the first instances, where each needs earlier ones alone.
-use Rattle.std.specs.Prelude.{◌≡◌, ◌<◌, ◌≤◌, ◌^◌, ℕ, List, length, slice_get, slice_index, Option, Some}
+use Rattle.std.specs.Prelude.{◌≡◌, ◌+◌, ◌<◌, ◌≤◌, ◌^◌, ℕ, List, length, slice_get, slice_index, Option, Some}
 use Rattle.std.specs.List.{IsAmong}
 use Rattle.aol_flat.specs.Laid.{Laid}
+use Rattle.aol_flat.specs.LeafCursor.{first_on}
 use Rattle.aol_flat.specs.Level.{Reads, AreReadsOf, writers_read, above_all}
 use Rattle.aol_flat.specs.declared.view.Read.{Read}
+use Rattle.aol_depend.specs.MainReads.{AreBare}
 
 -- no level is greater than the number of its instance
 pub record AreLow (levels : List ℕ) : Type 0 where
@@ -28,3 +30,11 @@ pub record AreRankedBefore (f : Laid) (list : List (Option ℕ)) (n : ℕ) (leve
   pub many : length levels ≡ n
   pub low : (j : ℕ) → j < n → slice_index levels j ≤ j
   pub each : (j : ℕ) (rs : List Read) → slice_get reads j ≡ Some rs → IsRankedAt f list levels j rs
+
+-- the levels grow by those of so many instances of a leaf, where no main input has a writer
+abbrev pub RanksOf : Laid → ℕ → ℕ → List ℕ → List ℕ → Type 0
+RanksOf f leaf number old new = (list : List (Option ℕ)) → AreBare f list → AreRankedBefore f list (first_on f.model leaf) old → AreRankedBefore f list (first_on f.model leaf + number) new
+
+-- by those of all its instances
+abbrev pub RanksLeaf : Laid → ℕ → List ℕ → List ℕ → Type 0
+RanksLeaf f leaf old new = (list : List (Option ℕ)) → AreBare f list → AreRankedBefore f list (first_on f.model leaf) old → AreRankedBefore f list (first_on f.model (leaf + 1)) new

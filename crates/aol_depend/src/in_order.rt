@@ -6,9 +6,11 @@ ghost use Rattle.aol_flat.specs.Instance.{instances, leaves};
 ghost use Rattle.aol_flat.specs.LeafCursor.{first_on};
 ghost use Rattle.aol_flat.specs.Level.{Reads, AreReads, AreLevels};
 ghost use Rattle.aol_depend.specs.Gather.{IsInList, AreEntries};
-ghost use Rattle.aol_depend.specs.InOrder.{AreLow, IsAbove, AreRankedBefore};
+ghost use Rattle.aol_depend.specs.MainReads.{ReadsMainInputs, AreBare};
+ghost use Rattle.aol_depend.specs.InOrder.{AreLow, IsAbove, AreRankedBefore, RanksLeaf};
 
 use crate::level_list::Levels;
+use crate::main_reads::{are_bare, reads_main};
 use aol_flat::{Flat, Read};
 use aol_shape::NoMemory;
 use std::alloc::{AllocError, Global};
@@ -79,6 +81,41 @@ fn rank_leaf(
     Ok(true)
 }
 
+/// Adds level 0 for each instance of a leaf that reads main inputs alone.
+fn rank_first_leaf(flat: &Flat, leaf: u32, levels: &mut Vec<u32>) -> Result<(), AllocError>
+    requires leaf { leaf < length (leaves flat.now.model) }
+    requires reads { ReadsMainInputs flat.now leaf }
+    ensures { OnOk result (RanksLeaf flat.now leaf levels.old.items levels.new.items) }
+{
+    for _number in 0..flat.leaf(leaf).count {
+        push(levels, 0)?;
+    }
+    Ok(())
+}
+
+/// Adds the levels of the instances of a leaf; where no main input has a writer, `bare` may say so.
+fn rank_next(
+    alloc: Global,
+    flat: &Flat,
+    leaf: u32,
+    writer_of: &[Option<u32>],
+    bare: bool,
+    levels: &mut Vec<u32>,
+) -> Result<bool, NoMemory>
+    requires leaf { leaf < length (leaves flat.now.model) }
+    requires few { length (instances flat.now.model) < 2 ^ 32 }
+    requires entries { AreEntries flat.now writer_of.now }
+    requires bare { IsTrue bare → AreBare flat.now writer_of.now }
+    requires before { AreRankedBefore flat.now writer_of.now (first_on flat.now.model leaf) levels.old.items }
+    ensures { IfOk result (λ all. IsTrue all → AreRankedBefore flat.now writer_of.now (first_on flat.now.model (leaf + 1)) levels.new.items) }
+{
+    if bare && reads_main(flat, leaf) {
+        rank_first_leaf(flat, leaf, levels)?;
+        return Ok(true);
+    }
+    rank_leaf(alloc, flat, leaf, writer_of, levels)
+}
+
 /// The levels of all instances; none where some instance needs itself or a later one.
 pub fn levels_in_order(
     alloc: Global,
@@ -89,8 +126,9 @@ pub fn levels_in_order(
     ensures { IfOk result (λ found. IfSome found (λ levels. (reads : Reads) × AreReads flat.now reads × AreLevels reads writer_of.now levels)) }
 {
     let mut levels = Vec::with_capacity(alloc, flat.instances() as usize)?;
+    let bare = flat.leaves() > 0 && are_bare(flat, writer_of);
     for leaf in 0..flat.leaves() {
-        if !rank_leaf(alloc, flat, leaf, writer_of, &mut levels)? {
+        if !rank_next(alloc, flat, leaf, writer_of, bare, &mut levels)? {
             return Ok(None);
         }
     }

@@ -16,3 +16,6 @@ pub mod ReadingPlaces
 pub mod HolesTold
 pub mod MainCells
 pub mod LeafNumbers
+pub mod FedInputs
+pub mod ElementReads
+pub mod AllWritten

@@ -7,6 +7,7 @@ ghost use Rattle.aol_flat.specs.Reads.{AllGiven};
 ghost use Rattle.aol_assign.specs.Answers.{IsTwiceTold, IsRightlyTold};
 ghost use Rattle.aol_assign.specs.ReadsSoFar.{ReadsMain};
 
+use crate::holes::are_written;
 use crate::reads::{main_input_count, test_reads};
 use crate::refused::AssignRefused;
 use crate::twice::test_single;
@@ -49,5 +50,8 @@ fn test_given(alloc: Global, flat: &Flat, found: &Writers) -> Result<(), AssignR
     flat.model();
     let _cells = flat.cells();
     let inputs = main_input_count(alloc, flat)?;
+    if are_written(found.list(), inputs) {
+        return Ok(());
+    }
     test_reads(alloc, flat, found.list(), inputs)
 }

@@ -1,12 +1,12 @@
 //! The first of some reads whose element isn't given.
 
-ghost use Rattle.std.specs.Prelude.{◌≡◌, ◌+◌, ◌<◌, ◌≤◌, ◌^◌, sum, length, map, not, slice_get, Some, IfOk};
+ghost use Rattle.std.specs.Prelude.{◌≡◌, ◌+◌, ◌<◌, ◌≤◌, ◌^◌, sum, length, map, not, slice_get, Some, IfOk, IsTrue};
 ghost use Rattle.std.specs.List.{AllByRecursion, position_from};
 ghost use Rattle.aol_flat.specs.Instance.{places_of_sizes, port_sizes};
 ghost use Rattle.aol_expr_tree.specs.declared.port.Port.{Port};
 ghost use Rattle.aol_model_types.specs.declared.task.OutPort.{OutPort};
 ghost use Rattle.aol_model_types.specs.Rules.{inputs_of, outputs_of};
-ghost use Rattle.aol_assign.specs.Holes.{is_given_by, IsWithin, cells_from};
+ghost use Rattle.aol_assign.specs.Holes.{is_given_by, IsWithin, cells_from, AreWrittenFrom};
 
 use crate::tasks::inputs_of;
 use aol_expr_tree::Port;
@@ -51,6 +51,18 @@ pub fn first_bare(list: &[Option<u32>], inputs: u32, count: u32) -> Option<u32>
         }
     }
     None
+}
+
+/// Whether each cell after the first so many has a writer.
+pub fn are_written(list: &[Option<u32>], first: u32) -> bool
+    ensures { IsTrue result → AreWrittenFrom first list.now }
+{
+    for cell in first as usize..list.len() {
+        let Some(_writer) = list[cell] else {
+            return false;
+        };
+    }
+    true
 }
 
 /// The sum of some sizes.

@@ -98,7 +98,7 @@ have_levels needs marks levels count h none all = record {
 }
 
 -- the greatest of numbers that are below a bound is below it, or is the number at the start
-most_below : (levels : List ℕ) (n a : ℕ) → a + 1 < 2 ^ 32 → n < 2 ^ 32 → ((j : ℕ) → j < length levels → get_or levels j 0 < n) → fold max a levels + 1 < 2 ^ 32
+pub most_below : (levels : List ℕ) (n a : ℕ) → a + 1 < 2 ^ 32 → n < 2 ^ 32 → ((j : ℕ) → j < length levels → get_or levels j 0 < n) → fold max a levels + 1 < 2 ^ 32
 most_below [] n a start bound low = start
 most_below (x ∷ xs) n a start bound low =
     let here : x < n = low 0 (omega arith) in

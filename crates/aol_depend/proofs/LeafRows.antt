@@ -26,7 +26,7 @@ more_leaves (x ∷ ls) zero l at = let same : size x.space ≡ size l.space = cc
 more_leaves (x ∷ ls) (suc k) l at = omega (arith, more_leaves ls k l at)
 
 -- a number within a leaf is that of an instance
-numbered : (m : Model) (leaf number : ℕ) (row : LeafRow) (r : IsLeafRow m leaf row) → number < row.count → slice_get (instances m) (first_on m leaf + number) ≡ Some (instance_on r.leaf (point_at r.leaf.space number))
+pub numbered : (m : Model) (leaf number : ℕ) (row : LeafRow) (r : IsLeafRow m leaf row) → number < row.count → slice_get (instances m) (first_on m leaf + number) ≡ Some (instance_on r.leaf (point_at r.leaf.space number))
 numbered m leaf number row r low = instance_at m leaf r.leaf number r.at (omega (arith, low, r.count))
 
 -- what an instance of the leaf reads is one of the cells
@@ -51,15 +51,19 @@ leaf_gathered f list leaf number row starts needed rs ends more few r low g read
     let R : List ℕ → Type 0 = λ ns. AreGathered f list (first_on f.model leaf + (number + 1)) ends ns in
     subst R (sym added) (subst Q (sym start) (subst P next (more_gathered f list n starts needed rs g (omega (arith, within, few)) reads)))
 
+-- the instances of the leaf come before those of the next
+pub leaf_ends : (m : Model) (leaf number : ℕ) (row : LeafRow) → IsLeafRow m leaf row → number ≡ row.count → first_on m leaf + number ≡ first_on m (leaf + 1)
+leaf_ends m leaf number row r all =
+    let next : first_on m (leaf + 1) ≡ first_on m leaf + size r.leaf.space =
+    ap (first_on m) (let k : leaf + 1 ≡ suc leaf = omega arith in k) ∙ more_leaves (leaves m) leaf r.leaf r.at in
+    omega (arith, all, r.count, next)
+
 -- the rows of all instances of the leaf
 pub leaf_done : (f : Laid) (list : List (Option ℕ)) (leaf number : ℕ) (row : LeafRow) (starts needed : List ℕ) → IsLeafRow f.model leaf row → number ≡ row.count → AreGathered f list (first_on f.model leaf + number) starts needed
     → AreGathered f list (first_on f.model (leaf + 1)) starts needed
 leaf_done f list leaf number row starts needed r all g =
     let P : ℕ → Type 0 = λ k. AreGathered f list k starts needed in
-    let next : first_on f.model (leaf + 1) ≡ first_on f.model leaf + size r.leaf.space =
-    ap (first_on f.model) (let k : leaf + 1 ≡ suc leaf = omega arith in k) ∙ more_leaves (leaves f.model) leaf r.leaf r.at in
-    let e : first_on f.model leaf + number ≡ first_on f.model (leaf + 1) = omega (arith, all, r.count, next) in
-    subst P e g
+    subst P (leaf_ends f.model leaf number row r all) g
 
 -- no instance of the leaf yet
 pub leaf_begun : (f : Laid) (list : List (Option ℕ)) (leaf : ℕ) (starts needed : List ℕ) → AreGathered f list (first_on f.model leaf) starts needed → AreGathered f list (first_on f.model leaf + 0) starts needed

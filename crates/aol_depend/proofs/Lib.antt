@@ -12,3 +12,6 @@ pub mod Finding
 pub mod Gathering
 pub mod AddedRow
 pub mod Gathered
+pub mod InOrder
+pub mod MainReads
+pub mod FirstLevels

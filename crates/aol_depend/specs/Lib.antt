@@ -2,3 +2,5 @@ pub mod Rows
 pub mod Needs
 pub mod Search
 pub mod Gather
+pub mod MainReads
+pub mod InOrder

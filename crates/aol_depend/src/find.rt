@@ -5,6 +5,7 @@ ghost use Rattle.aol_flat.specs.Level.{Reads, AreReads, AreLevels, IsFirstInLoop
 ghost use Rattle.aol_depend.specs.Gather.{AreEntries};
 
 use crate::gather::needs_of;
+use crate::in_order::levels_in_order;
 use crate::level_list::{Levels, levels_of};
 use crate::refused::DependRefused;
 use aol_flat::Flat;
@@ -23,6 +24,9 @@ pub fn levels(
     ensures levels { IfOk result (λ l. (reads : Reads) × AreReads flat.now reads × AreLevels reads writer_of.now l) }
     ensures cycle { (j : ℕ) → result ≡ Err (DependRefused.Cycle j) → (reads : Reads) × AreReads flat.now reads × IsFirstInLoop reads writer_of.now j }
 {
+    if let Some(levels) = levels_in_order(alloc, flat, writer_of)? {
+        return Ok(levels);
+    }
     let needs = needs_of(alloc, flat, writer_of)?;
     levels_of(alloc, &needs)
 }

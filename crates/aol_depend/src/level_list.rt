@@ -57,7 +57,7 @@ pub fn levels_of(alloc: Global, needs: &Needs) -> Result<Levels, DependRefused>
 
 impl Levels {
     /// These levels.
-    fn of(list: Vec<u32>) -> Levels
+    pub fn of(list: Vec<u32>) -> Levels
         requires { fold max 0 list.items + 1 < 2 ^ 32 }
         ensures { result ≡ list.items }
     {

@@ -12,7 +12,9 @@
 
 mod find;
 mod gather;
+mod in_order;
 mod level_list;
+mod main_reads;
 mod needs;
 mod refused;
 mod search;

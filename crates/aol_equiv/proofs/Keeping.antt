@@ -178,8 +178,8 @@ module _ (s : Sides) (known : AreCompared s) where
           o.is,
           (known.old_is.each o.element o.read o.exists o.reads required).0 (ap (end_of s.old_ends.now) one ∙ first.ends),
           λ e g.
-          let ends : Some e ≡ Some required = sym ((known.old_is.each o.element o.read o.exists o.reads e).1 g) ∙ (ap (end_of s.old_ends.now) one ∙ first.ends) in
-          cc,
+              let ends : Some e ≡ Some required = sym ((known.old_is.each o.element o.read o.exists o.reads e).1 g) ∙ (ap (end_of s.old_ends.now) one ∙ first.ends) in
+              cc,
         )
 
   -- ---- an instance
@@ -384,7 +384,7 @@ module _ (s : Sides) (known : AreCompared s) where
           record {
             reading = h.0;
             is_first = record { first = first_after IsKept all_before (main_readings new) h.0 kept_before h.1; old_element = h.5; same_read = h.6; ends = h.7 };
-              only = h.8;
+            only = h.8;
             same_reader = sym h.2;
             same_port = sym h.3;
             same_point = sym h.4;

@@ -9,8 +9,7 @@
 #![tactic(auto)]
 
 pub use aol_document::{
-    document_of, documents_are_read_again, read_trees_are_held, reading_shows, tree_of,
-    value_of,
+    document_of, documents_are_read_again, read_trees_are_held, reading_shows, tree_of, value_of,
 };
 pub use aol_model_types::{
     Compound, Copied, DocRefused, Document, Elementary, Entry, FuseArgs, Hook, InputArray, Job,

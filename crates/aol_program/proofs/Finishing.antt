@@ -27,7 +27,7 @@ use Rattle.aol_lines.specs.Reply.{ReplyOf, reply_of, SinkEnds, Wrote}
 use Rattle.aol_lines.specs.Status.{code_of}
 use Rattle.aol_program.specs.Words.{subject_of}
 use Rattle.aol_program.specs.Words as subjects
-use Rattle.aol_step_lines.specs.StepsReply.{StepReply, unbuilt, no_model, written_twice, lost, StepsReply}
+use Rattle.aol_step_lines.specs.StepsReply.{StepReply, unbuilt, no_model, written_twice, lost as lost_read, StepsReply}
 use Rattle.aol_program.proofs.Refusals.{no_end}
 use Rattle.aol_program.specs.declared.accepted.Finished.{Finished}
 use Rattle.aol_program.specs.declared.made.Made.{Made}
@@ -48,7 +48,7 @@ step_no_end : (m : Model) (number : ℕ) (s : Step) (r : ReplyOf) → StepReply 
 step_no_end m number s _ (unbuilt h) = not_17
 step_no_end m number s _ (no_model why h some) = no_end 14 (omega arith) (omega arith)
 step_no_end m number s _ (written_twice next p t h) = no_end 14 (omega arith) (omega arith)
-step_no_end m number s _ (lost next p single old_of map reading required h) = no_end 14 (omega arith) (omega arith)
+step_no_end m number s _ (lost_read next p single old_of map reading required h) = no_end 14 (omega arith) (omega arith)
 
 -- what isn't made isn't run
 pub not_made_no_end : (m : Model) (list : List Step) (r : ReplyOf) → StepsReply m list r → ¬ IsRunCode (code_of r.status)
@@ -71,18 +71,17 @@ placed_by d last n made _ (lines none) = placed last (record { made = made; no_c
 -- a run of it is one of the document
 pub finished_by : (a : Accepted) (n : ℕ) (m : Made) (r : Result (Result Finished Reply) NoMemory) → AreAccepted a → first_wrong_input a.flat.model a.job.input ≡ None → IsLevelled a.flat.model a.job.transform m
     → IfOk r (IsRunFor m.flat.model a.job n) → IfOk r (IsFinished a n)
-finished_by a n m (Err e) accepted right made h = h
-finished_by a n m (Ok (Err r)) accepted right made h =
+finished_by a n m (Err e) whole right made h = h
+finished_by a n m (Ok (Err r)) whole right made h =
     let d = document_with a.flat a.job in
     let told = entry_unplaced d m.flat.model (reply_of r) made.made h in
     (not_placed right (reply_of r) told, unplaced_no_end d (reply_of r) told)
-finished_by a n m (Ok (Ok f)) accepted right made h =
+finished_by a n m (Ok (Ok f)) whole right made h =
     let d = document_with a.flat a.job in
     let last = m.flat.model in
-    let ins : given_arrays a.job.input (main_inputs last) ≡ given_arrays a.job.input (main_inputs a.flat.model) = ap (given_arrays a.job.input) (same_ins made.made) in
-    (
+    let ins : given_arrays a.job.input (main_inputs last) ≡ given_arrays a.job.input (main_inputs a.flat.model) = ap (given_arrays a.job.input) (same_ins made.made) in (
       run right last (record { made = made.made; no_cause = h.placed.no_cause }) (reply_of f.reply)
-      (kept_run a.flat.model last a.job.transform a.job.input (reply_of f.reply) accepted.kept.sound accepted.accepted made.made made.keeps (inputs-fit a.flat.model a.job.input right) h.prints),
+          (kept_run a.flat.model last a.job.transform a.job.input (reply_of f.reply) whole.kept.sound whole.accepted made.made made.keeps (inputs-fit a.flat.model a.job.input right) h.prints),
       run_ended last a.job.input (reply_of f.reply) h.prints,
       record {
         laid = h.laid;

@@ -52,7 +52,7 @@ inputs_fit steps inputs fit = subst (λ ports. AllByRecursion (IsGivenFor inputs
 -- ---- what is printed of values that agree
 
 -- the line of a fault, by the elementary tasks
-line_by : List Task → Site → List ℕ
+abbrev line_by : List Task → Site → List ℕ
 line_by ts s =
     line (spaced (codes "fault" ∷ kind_text s.kind ∷ unwrap_or (option_map task_name (slice_get ts s.task)) []
     ∷ unwrap_or (option_map (λ (p : Port). p.name) (slice_get (unwrap_or (option_map outputs_of (slice_get ts s.task)) []) s.port)) []

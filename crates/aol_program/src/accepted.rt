@@ -10,7 +10,7 @@ ghost use Rattle.aol_runner.specs.Run.{IsRunField};
 ghost use Rattle.aol_lines.specs.Reply.{reply_of};
 ghost use Rattle.aol_lines.specs.Status.{code_of};
 ghost use Rattle.aol_program.specs.Accept.{AreAccepted, document_with};
-ghost use Rattle.aol_program.specs.AcceptedAnswer.{AcceptedAnswers, IsCheckReply, TransformAnswers, PlaceAnswers};
+ghost use Rattle.aol_program.specs.AcceptedAnswer.{AcceptedAnswers, IsCheckReply, TransformAnswers, PlaceAnswers, without_steps};
 ghost use Rattle.aol_program.specs.Finished.{IsFinished};
 ghost use Rattle.aol_program.specs.Inputs.{first_wrong_input, given_arrays};
 ghost use Rattle.aol_program.specs.Made.{IsRunFor};
@@ -81,25 +81,37 @@ fn check_reply(alloc: Global, accepted: &Accepted) -> Result<Reply, NoMemory>
     accepted_reply(alloc, accepted.flat.instances(), accepted.levels.count())
 }
 
+/// The job with no steps left.
+fn without_steps(alloc: Global, job: Job) -> Job
+    ensures { result ≡ without_steps job }
+{
+    let Job {
+        input,
+        allocate,
+        ..
+    } = job;
+    Job {
+        input,
+        transform: Items::new(alloc),
+        allocate,
+    }
+}
+
 /// The document with the model that its steps make, and none left.
 fn transform_reply(alloc: Global, accepted: Accepted) -> Result<Reply, NoMemory>
     requires { AreAccepted accepted }
     ensures { IfOk result (λ r. TransformAnswers (document_with accepted.flat accepted.job) (reply_of r)) }
 {
     let Accepted {
-        flat, writers, job, ..
+        flat,
+        writers,
+        job,
+        ..
     } = accepted;
     let outcome = transformed(alloc, flat, writers, job.transform.as_slice())?;
     match outcome {
         Ok(made) => {
-            let Job {
-                input, allocate, ..
-            } = job;
-            let left = Job {
-                input,
-                transform: Items::new(alloc),
-                allocate,
-            };
+            let left = without_steps(alloc, job);
             print_reply(alloc, made.flat.model(), &left)
         }
         Err(reply) => Ok(reply),
@@ -113,7 +125,10 @@ fn placement_reply(alloc: Global, accepted: Accepted, workers: u32) -> Result<Re
     ensures { IfOk result (λ r. PlaceAnswers (document_with accepted.flat accepted.job) workers (reply_of r)) }
 {
     let Accepted {
-        flat, writers, job, ..
+        flat,
+        writers,
+        job,
+        ..
     } = accepted;
     let outcome = transformed(alloc, flat, writers, job.transform.as_slice())?;
     match outcome {

@@ -27,9 +27,9 @@ mod status;
 mod words;
 
 pub use accepting::{Accepted, Refusal, accept};
+pub use aol_lines::StatusKind;
 pub use laws::{
     accepted_have_no_cause, accepted_is_not_refused, there_is_one_refusal, there_is_one_reply,
 };
 pub use program::aol;
-pub use aol_lines::StatusKind;
 pub use status::{Ran, Status};

@@ -29,5 +29,5 @@ returns-clause-reply g c =
 
 pub returns-clause-memory : goal.returns-clause-memory
 returns-clause-memory g c =
-        let made : c.in_ok-given.given ≡ given_arrays c.args.inputs.now (main_inputs c.args.flat.now.model) = search rules in
+    let made : c.in_ok-given.given ≡ given_arrays c.args.inputs.now (main_inputs c.args.flat.now.model) = search rules in
     subst (λ xs. IsRunField c.args.flat.now c.args.placed.now.of_instance xs c.in_ok-outputs.memory) made c.in_ok-outputs.ensures.memory

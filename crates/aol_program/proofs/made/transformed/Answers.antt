@@ -7,5 +7,5 @@ returns-in-Ok c = record { made = c.in-Ok.ensures.kept; keeps = c.in-Ok.ensures.
 pub step_reply-requires : goal.step_reply-requires
 step_reply-requires c = (c.args.flat.model, c.args.steps.now, c.in-Err.ensures.refused)
 
-pub returns-in_ok-reply : goal.returns-in_ok-reply
-returns-in_ok-reply c = c.in_ok-reply.ensures c.args.flat.model c.args.steps.now c.in-Err.ensures.refused
+pub returns-in_ok-reply-in-Err : goal.returns-in_ok-reply-in-Err
+returns-in_ok-reply-in-Err c = c.in_ok-reply-in-Err.ensures c.args.flat.model c.args.steps.now c.in-Err.ensures.refused

@@ -13,7 +13,7 @@ lines_of-requires-clause-placed c = (subst (IsPlacedFor c.args.flat.now.model c.
 pub lines_of-requires-clause-few : goal.lines_of-requires-clause-few
 lines_of-requires-clause-few c =
     let had = subst (IsPlacedFor c.args.flat.now.model c.args.entries.now c.args.workers) c.in-Ok.is c.in_ok-outcome.ensures in
-    omega (arith, had.placement.many, numbers_small c.args.flat.now.model c.model-_model.ensures.flat.sound c.model-_model.ensures.flat.limits)
+    omega (arith, had.placement.many, numbers_small c.args.flat.now.model c.model-model.ensures.flat.sound c.model-model.ensures.flat.limits)
 
 pub returns-in-Ok : goal.returns-in-Ok
 returns-in-Ok c =

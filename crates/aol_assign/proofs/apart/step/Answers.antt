@@ -1,4 +1,4 @@
-use Rattle.std.proofs.Common.{◌≡◌, ℤ, pos, false, ap, sym, ◌∙◌}
+use Rattle.std.proofs.Common.{◌≡◌, pos, false, ap, sym, ◌∙◌}
 use Rattle.std.specs.Prelude.{nat_abs}
 use Rattle.std.specs.Int.Signed.{lt_z}
 use mir.Syntax.{w32}

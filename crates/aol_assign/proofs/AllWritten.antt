@@ -1,6 +1,5 @@
 -- Where each cell after the main inputs is written, all that is read is given.
-use Rattle.std.proofs.Common.{◌≡◌, ◌≤◌, ◌<◌, ℕ, List, length, Option, Some, slice_get, ap, arith, sym, ◌∙◌, inl, inr}
-use Rattle.std.specs.List.{IsAmong}
+use Rattle.std.proofs.Common.{◌≡◌, ℕ, List, length, Option, arith, inl, inr}
 use Rattle.std.proofs.lemmas.Bool.{cases_lt}
 use Rattle.std.proofs.lemmas.Option.{slice_get_within}
 use Rattle.aol_model_types.specs.declared.task.Task.TheVariants as tasks

@@ -1,16 +1,16 @@
 -- Each input of a sound model leads somewhere.
-use Rattle.std.proofs.Common.{◌≡◌, ℕ, zero, suc, ◌+◌, ◌<◌, Bool, true, false, ◌||◌, cond, List, [], ◌∷◌, length, Option, Some, None, is_some, option_map, unwrap_or, slice_get, sym, ◌∙◌, ap, refl, arith, subst, ◌⊎◌, inl, inr}
+use Rattle.std.proofs.Common.{◌≡◌, ℕ, ◌+◌, ◌<◌, Bool, true, false, ◌||◌, cond, List, [], ◌∷◌, length, Option, Some, None, is_some, option_map, unwrap_or, sym, ◌∙◌, ap, refl, arith, subst, ◌⊎◌, inl, inr}
 use Rattle.std.specs.Prelude.{ℤ, option_and_then}
 use Rattle.std.specs.List.{IsAmong}
 use Rattle.aol_shape.specs.Lists.{same}
-use Rattle.aol_shape.specs.Vectors.{is_inside, wrapped_point}
+use Rattle.aol_shape.specs.Vectors.{is_inside}
 use Rattle.aol_tiler.specs.Matrices.{TilerOf}
 use Rattle.aol_tiler.specs.Tiler.{address_point, integers}
 use Rattle.aol_link.specs.declared.link.Choice.{Choice}
 use Rattle.aol_link.specs.declared.link.Fallback.{Fallback}
 use Rattle.aol_link.specs.declared.link.Fallback.TheVariants.{Number, Tiled}
 use Rattle.aol_link.specs.declared.link.Interlink.{Interlink}
-use Rattle.aol_link.specs.Links.{source_repetition, stepped_back, naturals, applies, first_choice, first_choice_from, ends_in_always}
+use Rattle.aol_link.specs.Links.{source_repetition, stepped_back, applies, first_choice, first_choice_from, ends_in_always}
 use Rattle.aol_link.proofs.Outside.{last_stays}
 use Rattle.aol_model_types.specs.declared.document.Model.{Model}
 use Rattle.aol_model_types.specs.declared.place.Key.TheVariants.{KLinks}
@@ -21,10 +21,10 @@ use Rattle.aol_model_types.specs.declared.task.Task.{Task}
 use Rattle.aol_model_types.specs.declared.task.Task.TheVariants as tasks
 use Rattle.aol_model_types.specs.declared.task.TilerOn.{TilerOn}
 use Rattle.aol_model_types.specs.Places.{to_key}
-use Rattle.aol_model_types.specs.Rules.{task_named, inputs_of, inputs_named, outputs_named, port_shape, fallback_fits, fits_in, interlink_checks, links_inner, spans_space, defaults_fit, has_last_resort, has_dimensions, ends_with_always}
+use Rattle.aol_model_types.specs.Rules.{task_named, inputs_of, inputs_named, outputs_named, port_shape, fallback_fits, fits_in, interlink_checks, links_inner, spans_space, defaults_fit, has_last_resort, ends_with_always}
 use Rattle.aol_flat.specs.Accept.{IsSound}
 use Rattle.aol_flat.specs.Equation.{LinkedInput, TiledInput, DefaultElement}
-use Rattle.aol_flat.specs.Home.{Origin, Unfed, Stored, Output, Default, origin, link_into_part, tiler_at, link_into_repetition, default_choice, end_origin, linked_origin, part_origin, repetition_origin, tiled_origin, link_origin, source_origin, choice_origin, fallback_origin, is_input_at}
+use Rattle.aol_flat.specs.Home.{Unfed, origin, link_into_part, tiler_at, link_into_repetition, default_choice, end_origin, linked_origin, part_origin, repetition_origin, tiled_origin, link_origin, source_origin, choice_origin, fallback_origin, is_input_at}
 use Rattle.aol_flat.specs.Need.{by_part_input, by_tiled_input, by_default, by_following}
 use Rattle.aol_flat.specs.Place.{Place, IntoPart, IntoRepetition, Element, IsElement, task_at, task_below, end_element, instance_of_end}
 use Rattle.aol_flat.specs.Wired.{IsInput, IsWired}

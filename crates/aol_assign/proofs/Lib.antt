@@ -1,5 +1,7 @@
 pub mod Counts
+pub mod MixedRadix
 pub mod WritingRanks
+pub mod Unrepeated
 pub mod Marking
 pub mod Members
 pub mod Collecting

@@ -1,4 +1,5 @@
 pub mod Pairs
+pub mod Apart
 pub mod Marks
 pub mod Found
 pub mod Answers

@@ -4,6 +4,7 @@
 //! Read `specs/Answers.antt` first.
 #![tactic(auto)]
 
+mod apart;
 mod calls;
 mod holes;
 mod laws;

@@ -1,12 +1,13 @@
 //! Marks of the points that pairs write, and the first pair whose point an earlier one has.
 
-ghost use Rattle.std.specs.Prelude.{◌≡◌, ◌<◌, [], ℕ, length, false, IfOk, slice_get, slice_index_or, Some, option_map};
+ghost use Rattle.std.specs.Prelude.{◌≡◌, ◌<◌, [], ℕ, length, false, IfOk, IsTrue, slice_get, slice_index_or, Some, None, option_map};
 ghost use Rattle.std.specs.List.{AllByRecursion};
 ghost use Rattle.aol_shape.specs.Shape.{size, point_at};
 ghost use Rattle.aol_flat.specs.Targets.{Writing, earlier_writing};
 ghost use Rattle.aol_assign.specs.Pairs.{FitsIn, member_writings, all_writings};
 ghost use Rattle.aol_assign.specs.Marks.{AreMarks, MarksOn, IsEarliest, repeat_of, told_as};
 
+use crate::apart::writes_apart;
 use crate::pairs::{Member, point_of};
 use aol_flat::Writer;
 use aol_shape::{NoMemory, Point, Shape};
@@ -106,7 +107,21 @@ fn first_repeat(
     None
 }
 
+/// Whether there is one member alone, whose pairs surely write different points.
+fn are_apart(array: &Shape, members: &[Member]) -> bool
+    requires { AllByRecursion (FitsIn array.now) members.now }
+    ensures { IsTrue result → repeat_of (all_writings array.now members.now) ≡ None }
+{
+    if members.len() != 1 {
+        return false;
+    }
+    let member = &members[0];
+    writes_apart(array, member)
+}
+
 /// The first pair whose point an earlier one has, with that earlier one.
+///
+/// No point is marked where a tiler alone writes the array, and its columns count in mixed radix.
 pub fn repeat_among(
     alloc: Global,
     array: &Shape,
@@ -116,6 +131,9 @@ pub fn repeat_among(
     ensures { IfOk result (λ r. r ≡ repeat_of (all_writings array.now members.now)) }
 {
     if members.is_empty() {
+        return Ok(None);
+    }
+    if are_apart(array, members) {
         return Ok(None);
     }
     let mut marks = unmarked(alloc, array.size() as usize)?;

@@ -1,16 +1,16 @@
 -- The instances of a leaf that reads main inputs alone need none.
-use Rattle.std.proofs.Common.{◌≡◌, ◌<◌, ℕ, ◌+◌, List, [], ◌∷◌, ◌++◌, Option, Some, slice_get, sym, ◌∙◌, ap, subst, arith}
+use Rattle.std.proofs.Common.{◌≡◌, ◌<◌, ℕ, ◌+◌, List, [], ◌∷◌, ◌++◌, Option, Some, sym, ◌∙◌, ap, subst, arith}
 use Rattle.std.specs.List.{IsAmong, AllZip}
 use Rattle.aol_shape.specs.Shape.{point_at}
-use Rattle.aol_flat.specs.Instance.{Instance, instances, instance_on, read_elements}
+use Rattle.aol_flat.specs.Instance.{Instance, instance_on, read_elements}
 use Rattle.aol_flat.specs.Laid.{Laid, IsReadOf}
 use Rattle.aol_flat.specs.LeafCursor.{first_on}
 use Rattle.aol_flat.specs.Leaves.{IsLeafRow}
 use Rattle.aol_flat.specs.Level.{AreReadsOf, writers_read, above_all}
 use Rattle.aol_flat.specs.declared.leaf.Leaf.{Leaf as LeafRow}
 use Rattle.aol_flat.specs.declared.view.Read.{Read}
-use Rattle.aol_depend.specs.InOrder.{IsAbove, AreRankedBefore, RanksOf, RanksLeaf}
-use Rattle.aol_depend.specs.MainReads.{ReadsMainInputs, AreBare}
+use Rattle.aol_depend.specs.InOrder.{IsAbove, RanksOf, RanksLeaf}
+use Rattle.aol_depend.specs.MainReads.{ReadsMainInputs}
 use Rattle.aol_depend.proofs.InOrder.{leaf_unranked, leaf_ranked, all_leaf_ranked}
 use Rattle.aol_depend.proofs.LeafRows.{numbered}
 use Rattle.aol_depend.proofs.MainReads.{main_reads}

@@ -1,5 +1,5 @@
 -- What comes from main inputs, by tilers and links from own inputs.
-use Rattle.std.proofs.Common.{◌≡◌, ◌≢◌, ◌≤◌, ◌<◌, ◌^◌, ℕ, zero, suc, ◌+◌, ◌-◌, Bool, true, false, cond, List, [], ◌∷◌, ◌++◌, length, take, drop, flat_map, get_or, Option, Some, None, is_some, option_map, unwrap_or, slice_get, sym, ◌∙◌, ap, refl, subst, arith, length-append, ◌⊎◌, inl, inr}
+use Rattle.std.proofs.Common.{◌≡◌, ◌≢◌, ◌≤◌, ◌<◌, ℕ, zero, suc, ◌+◌, ◌-◌, Bool, true, false, cond, List, [], ◌∷◌, ◌++◌, length, take, drop, flat_map, Option, Some, None, is_some, option_map, unwrap_or, slice_get, sym, ◌∙◌, ap, refl, subst, arith, length-append, ◌⊎◌, inl, inr}
 use Rattle.std.specs.Prelude.{nat_lt}
 use Rattle.std.specs.List.{IsAmong, AllZip, position, position_or_len}
 use Rattle.std.proofs.lemmas.List.{append_assoc, length-map}
@@ -19,25 +19,25 @@ use Rattle.aol_model_types.specs.declared.task.Task.TheVariants as tasks
 use Rattle.aol_model_types.specs.declared.task.TilerOn.{TilerOn}
 use Rattle.aol_model_types.specs.Rules.{inputs_of, outputs_of, inputs_named, outputs_named, port_shape}
 use Rattle.aol_flat.specs.Accept.{IsSound, IsFlat}
-use Rattle.aol_flat.specs.Equation.{MainInput, PartInput, TiledInput}
+use Rattle.aol_flat.specs.Equation.{PartInput, TiledInput}
 use Rattle.aol_flat.specs.Feed.{HasTask}
 use Rattle.aol_flat.specs.Home.{Kept, origin, origin_home, home_of, is_input_at}
-use Rattle.aol_flat.specs.Instance.{Leaf, Computes, leaves, Run, instances, instance_on, of_task, read_elements}
-use Rattle.aol_flat.specs.Laid.{Laid, IsLaid, IsReadOf, IsCellOf, main_input_elements, main_output_elements, inner_cells}
+use Rattle.aol_flat.specs.Instance.{Leaf, Computes, Run, instance_on, of_task, read_elements}
+use Rattle.aol_flat.specs.Laid.{Laid, IsLaid, IsReadOf, main_input_elements, main_output_elements, inner_cells}
 use Rattle.aol_flat.specs.Leaves.{IsLeafRow}
 use Rattle.aol_flat.specs.Level.{writers_read, with_writer}
 use Rattle.aol_flat.specs.Need.{by_part_input, by_tiled_input, by_following}
-use Rattle.aol_flat.specs.Node.{Node, Branch, ToPart, ToBody, space_around, place_on, task_under, node_task, nodes}
+use Rattle.aol_flat.specs.Node.{Node, ToPart, ToBody, space_around, place_on, task_under, node_task, nodes}
 use Rattle.aol_flat.specs.NodeTable.{IsNode, IsNodeRow, IsLeafSpot}
 use Rattle.aol_flat.specs.Place.{Place, IntoPart, IntoRepetition, Element, IsElement, task_at, port_elements, elements_of, end_element, instance_of_end}
-use Rattle.aol_flat.specs.Tasks.{main_task, main_inputs, part_number}
+use Rattle.aol_flat.specs.Tasks.{main_task, main_inputs}
 use Rattle.aol_flat.specs.Wired.{IsInput, IsWired}
 use Rattle.aol_flat.specs.declared.leaf.Leaf.{Leaf as LeafRow}
 use Rattle.aol_flat.specs.declared.leaf.LeafKind.TheVariants as kinds
 use Rattle.aol_flat.specs.declared.nodes.NodeRow.{NodeRow}
 use Rattle.aol_flat.specs.declared.nodes.LeafSpot.{LeafSpot}
 use Rattle.aol_flat.specs.declared.view.Read.{Read}
-use Rattle.aol_flat.specs.declared.view.Read.TheVariants.{Cell, Const}
+use Rattle.aol_flat.specs.declared.view.Read.TheVariants.{Cell}
 use Rattle.aol_flat.proofs.Agree.{IsAmong-tail}
 use Rattle.aol_flat.proofs.Among.{among_get, get_among, at_port}
 use Rattle.aol_flat.proofs.Checked.{IsTaskOf}
@@ -47,7 +47,7 @@ use Rattle.aol_flat.proofs.Homes.{input_home, followed_homes}
 use Rattle.aol_flat.proofs.Inside.{point_length, point_split}
 use Rattle.aol_flat.proofs.LeafForm.{IsRunForm, IsCopyForm, leaf_form}
 use Rattle.aol_flat.proofs.LinkSides.{task_there, input_there}
-use Rattle.aol_flat.proofs.Names.{slice_get-left, same-equal}
+use Rattle.aol_flat.proofs.Names.{slice_get-left}
 use Rattle.aol_flat.proofs.NodeAt.{known, is_under, is_root, above_same, task_there_on}
 use Rattle.aol_flat.proofs.Numbered.{of_port}
 use Rattle.aol_flat.proofs.Once.{there}
@@ -58,7 +58,7 @@ use Rattle.aol_flat.proofs.TilerRules.{IsTiling, JoinsPorts, sides_of}
 use Rattle.aol_flat.proofs.Totals.{length-numbers}
 use Rattle.aol_flat.proofs.Wired.{agreeing_is_wired, tiler_there, inner_output}
 use Rattle.aol_flat_laws.proofs.Stands.{of_part, of_repetition}
-use Rattle.aol_depend.specs.MainReads.{IsInto, IsOwnLink, IsTilerInto, IsFromMain, element_at, LeadsToMain, IsMainRead, ReadsMainInputs, AreBare}
+use Rattle.aol_depend.specs.MainReads.{IsOwnLink, IsTilerInto, IsFromMain, element_at, LeadsToMain, IsMainRead, ReadsMainInputs, AreBare}
 
 -- the place that is found
 pub place_found : {X : Type 0} (test : X → Bool) (xs : List X) (k : ℕ) → position test xs ≡ Some k → position_or_len test xs ≡ k

@@ -15,6 +15,9 @@ use std::alloc::Global;
 ///
 /// `writer_of` has one entry for each cell: the number of the instance that writes it, or none. An instance needs those
 /// that write the cells that it reads. `Cycle` tells the least instance of a set in which each needs one of the set.
+///
+/// Where each instance needs earlier ones alone, one pass over the reads finds all levels, and takes no memory for needs.
+/// A leaf that reads main inputs alone isn't read at all. Else the needs are gathered, and searched in time linear in them.
 pub fn levels(
     alloc: Global,
     flat: &Flat,

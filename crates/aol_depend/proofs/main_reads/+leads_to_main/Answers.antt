@@ -1,4 +1,4 @@
-use Rattle.std.proofs.Common.{sym, subst}
+use Rattle.std.proofs.Common.{subst}
 use Rattle.aol_model_types.specs.declared.task.Task.{Task}
 use Rattle.aol_flat.specs.Feed.{HasTask}
 use Rattle.aol_depend.proofs.MainReads.{root_leads, part_leads, body_leads}

@@ -1,4 +1,4 @@
-use Rattle.std.proofs.Common.{ap, arith, below_more}
+use Rattle.std.proofs.Common.{arith, below_more}
 use Rattle.aol_depend.proofs.MainReads.{main_few, some_node}
 use Rattle.aol_depend.proofs.main_reads.are_bare.Goals as goal
 

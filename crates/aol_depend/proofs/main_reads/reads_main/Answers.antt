@@ -1,4 +1,4 @@
-use Rattle.std.proofs.Common.{ap, sym, ◌∙◌, slice_get}
+use Rattle.std.proofs.Common.{ap, ◌∙◌, slice_get}
 use Rattle.aol_depend.proofs.MainReads.{leaf_reads_main}
 use Rattle.aol_depend.proofs.main_reads.reads_main.Goals as goal
 

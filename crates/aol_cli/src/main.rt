@@ -1,11 +1,13 @@
 //! The program `aol`: `aol` of `aol_program` over standard input and output.
 //!
 //! The clause of `aol` says how each call ends; `main` ends with the status that it hands back. The tables of calls stand
-//! in `tests.rt`.
+//! in `tests.rt` and `steps.rt`.
 #![tactic(auto)]
 
 #[cfg(test)]
 mod samples;
+#[cfg(test)]
+mod steps;
 #[cfg(test)]
 mod tests;
 

@@ -91,3 +91,4 @@ pub mod Alongs
 pub mod CopyLeaves
 pub mod CopyEnds
 pub mod CopyTargets
+pub mod Runs

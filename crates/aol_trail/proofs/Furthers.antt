@@ -79,7 +79,7 @@ all_enough (s ∷ ss) at h = (h.0.enough, all_enough ss at h.1)
 
 -- ---- the array at the end
 
-rank_further : (around at : List ℕ) (i : ℕ) → IsPointOf around at → 0 < length at → rank around (further i at) ≡ rank around at + i
+pub rank_further : (around at : List ℕ) (i : ℕ) → IsPointOf around at → 0 < length at → rank around (further i at) ≡ rank around at + i
 rank_further around at i inside some =
     let a = last_apart at some in
     let b = last_apart around (omega (arith, some, point_length around at inside)) in

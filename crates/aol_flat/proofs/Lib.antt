@@ -92,3 +92,6 @@ pub mod CopyLeaves
 pub mod CopyEnds
 pub mod CopyTargets
 pub mod Runs
+pub mod Lefts
+pub mod Whole
+pub mod Running

@@ -138,6 +138,7 @@ impl<'a> LeafReads<'a> {
     {
         self.along.go_to(number);
         let flat = self.along.flat;
+        let _model = flat.model();
         let routes = self.routes.as_mut_slice();
         if !self.whole {
             self.run = 0;
@@ -222,6 +223,7 @@ impl<'a> LeafWrites<'a> {
     {
         self.along.go_to(number);
         let flat = self.along.flat;
+        let _model = flat.model();
         let routes = self.routes.as_mut_slice();
         if !self.whole {
             self.run = 0;

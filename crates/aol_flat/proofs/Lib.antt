@@ -91,3 +91,7 @@ pub mod Alongs
 pub mod CopyLeaves
 pub mod CopyEnds
 pub mod CopyTargets
+pub mod Runs
+pub mod Lefts
+pub mod Whole
+pub mod Running

@@ -24,7 +24,7 @@ use Rattle.aol_flat.proofs.NodeAt.{one_node, limits_known, read_port}
 
 -- ---- pairs of lists
 
-zip_numbered : {A B Y : Type 0} (R : B → Y → Type 0) (h : A → B) (q : ℕ → A) (a n : ℕ) (ys : List Y) → length ys ≡ n → ((x : ℕ) (y : Y) → slice_get ys x ≡ Some y → R (h (q (a + x))) y)
+pub zip_numbered : {A B Y : Type 0} (R : B → Y → Type 0) (h : A → B) (q : ℕ → A) (a n : ℕ) (ys : List Y) → length ys ≡ n → ((x : ℕ) (y : Y) → slice_get ys x ≡ Some y → R (h (q (a + x))) y)
     → AllZip R (map h (map q (numbers_from a n))) ys
 zip_numbered R h q a zero [] same each = tt
 zip_numbered R h q a zero (y ∷ ys) same each = absurd (omega (arith, same))

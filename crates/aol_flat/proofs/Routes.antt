@@ -287,11 +287,11 @@ around_short m number up r around last space is b =
 
 -- ---- a trail that has moved
 
-steps_moved : (a : List ℕ) (b : List ℕ) (ss : List StepOf) → map (step_at a) (map (step_at b) ss) ≡ map (step_at a) ss
+pub steps_moved : (a : List ℕ) (b : List ℕ) (ss : List StepOf) → map (step_at a) (map (step_at b) ss) ≡ map (step_at a) ss
 steps_moved a b [] = refl
 steps_moved a b (s ∷ ss) = ap (λ zs. step_at a s ∷ zs) (steps_moved a b ss)
 
-steps_there : (a b : List ℕ) (ss : List StepOf) → AllByRecursion (IsStepAt a) ss → AllByRecursion (IsStepAt a) (map (step_at b) ss)
+pub steps_there : (a b : List ℕ) (ss : List StepOf) → AllByRecursion (IsStepAt a) ss → AllByRecursion (IsStepAt a) (map (step_at b) ss)
 steps_there a b [] h = tt
 steps_there a b (s ∷ ss) h = (record { enough = h.0.enough; inside = h.0.inside }, steps_there a b ss h.1)
 
@@ -448,7 +448,7 @@ write_along f flat number k many at t new cells home is p count are x cell got e
 
 -- a route whose trail has moved
 pub route_moved : (f : Laid) (ports : Task → List Port) (number k : ℕ) (at : List ℕ) (w : Route) (known : Bool) (new : TrailOf) → IsTrue known → IsTrue w.known → IsRoute f ports number k w → new ≡ trail_at at w.trail
-    → IsRoute f ports number k (record { known = known; trail = new })
+    → IsRoute f ports number k (record { known = known; trail = new; cells = w.cells; stride = w.stride })
 route_moved f ports number k at w known new t old one is = λ _. moved_home f ports number k w.trail new at (one old) is
 
 -- ---- a cursor

@@ -41,3 +41,4 @@ pub mod Cursor
 pub mod LeafCursor
 pub mod Route
 pub mod Copies
+pub mod Run

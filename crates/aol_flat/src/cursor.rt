@@ -31,7 +31,7 @@ fn read_all(trail: &Trail<'_>, into: &mut [Read])
 }
 
 /// The cells along a trail.
-fn write_all(trail: &Trail<'_>, into: &mut [u32])
+pub(crate) fn write_all(trail: &Trail<'_>, into: &mut [u32])
     requires few { length into.old < 2 ^ 32 }
     requires met { CanGive trail.now (length into.old) }
     ensures { AreTrailCells trail.now into.new }

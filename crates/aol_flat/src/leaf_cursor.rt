@@ -1,14 +1,16 @@
 //! Cursors over the instances of a leaf: what they read and what they write, one instance after another.
 
-ghost use Rattle.std.specs.Prelude.{◌≡◌, ◌+◌, ◌<◌, length, IfOk};
+ghost use Rattle.std.specs.Prelude.{◌≡◌, ◌+◌, ◌<◌, ℕ, length, IfOk};
+ghost use Rattle.aol_trail.specs.Further.{further};
 ghost use Rattle.aol_flat.specs.Instance.{leaves};
 ghost use Rattle.aol_flat.specs.LeafCursor.{IsAlong, ReadsEach, WritesEach, first_on, instances_on, reads_each, writes_each};
 ghost use Rattle.aol_flat.specs.Level.{AreReadsOf, AreWritesOf};
 
 use crate::flat::Flat;
 use crate::nodes::LeafSpot;
-use crate::points::{go_on, unrank};
+use crate::points::{go_on, left_in, unrank};
 use crate::route::Route;
+use crate::run::{fill_all, read_run, write_run};
 use crate::view::Read;
 use aol_shape::NoMemory;
 use std::alloc::Global;
@@ -58,6 +60,16 @@ impl<'a> Along<'a> {
         go_on(row.space.as_slice(), row.count, self.number, number, at);
         self.number = number;
     }
+
+    /// For how many instances from this one on only the last index differs.
+    fn left(&self) -> u32
+        requires { IsAlong self.now.flat.now.model self.now.leaf self.now.number self.now.at.items }
+        ensures some { 0 < result }
+        ensures along { (i : ℕ) → i < result → IsAlong self.now.flat.now.model self.now.leaf (self.now.number + i) (further i self.now.at.items) }
+    {
+        let row = self.flat.leaf(self.leaf);
+        left_in(row.space.as_slice(), self.at.as_slice())
+    }
 }
 
 /// What the instances of a leaf read.
@@ -69,6 +81,10 @@ pub struct LeafReads<'a> {
     spot: LeafSpot,
     routes: Vec<Route<'a>>,
     many: u32,
+    /// Whether each port has a route that keeps its cells.
+    whole: bool,
+    /// For how many instances, from the one where the cursor is, the routes have the cells.
+    run: u32,
 }
 
 impl<'a> Model for LeafReads<'a> {
@@ -77,7 +93,7 @@ impl<'a> Model for LeafReads<'a> {
     ghost use Rattle.aol_model_types.specs.contracts.document.Model as model_row;
     ghost use Rattle.aol_model_types.specs.Rules.{inputs_of};
     ghost use Rattle.aol_flat.specs.LeafCursor.{reads_each};
-    ghost use Rattle.aol_flat.specs.Route.{IsCursorOn};
+    ghost use Rattle.aol_flat.specs.Run.{ReadsCells, IsRunning};
 
     ghost Value = { CursorOf };
 
@@ -85,7 +101,7 @@ impl<'a> Model for LeafReads<'a> {
 
     ghost view = { λ c. record { flat = c.along.flat.now; leaf = c.along.leaf } };
 
-    ghost invariant = { λ c. IsCursorOn c.along.flat.now inputs_of c.along.leaf c.along.number c.along.at.items c.many (reads_each c.along.flat.now.model c.along.leaf) c.spot c.routes.items };
+    ghost invariant = { λ c. IsRunning ReadsCells c.along.flat.now inputs_of c.along.leaf c.along.number c.along.at.items c.many (reads_each c.along.flat.now.model c.along.leaf) c.spot c.routes.items c.whole c.run };
 }
 
 impl<'a> LeafReads<'a> {
@@ -106,16 +122,38 @@ impl<'a> LeafReads<'a> {
         ensures reads { AreReadsOf self.old.flat (first_on self.old.flat.model self.old.leaf + number) into.new }
         ensures same { self.new ≡ self.old }
     {
+        if number >= self.along.number && number - self.along.number < self.run {
+            read_run(self.routes.as_slice(), number - self.along.number, into);
+            return;
+        }
+        self.move_to(number, into);
+    }
+
+    /// The same, with a new run from that instance on.
+    fn move_to(&mut self, number: u32, into: &mut [Read])
+        requires number { number < instances_on self.old.flat.model self.old.leaf }
+        requires many { length into.old ≡ reads_each self.old.flat.model self.old.leaf }
+        ensures reads { AreReadsOf self.old.flat (first_on self.old.flat.model self.old.leaf + number) into.new }
+        ensures same { self.new ≡ self.old }
+    {
         self.along.go_to(number);
         let flat = self.along.flat;
+        let _model = flat.model();
         let routes = self.routes.as_mut_slice();
-        flat.reads_on(
-            self.along.leaf,
-            self.spot,
-            self.along.at.as_slice(),
-            routes,
-            into,
-        );
+        if !self.whole {
+            self.run = 0;
+            flat.reads_on(
+                self.along.leaf,
+                self.spot,
+                self.along.at.as_slice(),
+                routes,
+                into,
+            );
+            return;
+        }
+        let most = self.along.left();
+        self.run = fill_all(routes, self.along.at.as_slice(), most);
+        read_run(self.routes.as_slice(), 0, into);
     }
 }
 
@@ -128,6 +166,10 @@ pub struct LeafWrites<'a> {
     spot: LeafSpot,
     routes: Vec<Route<'a>>,
     many: u32,
+    /// Whether each port has a route that keeps its cells.
+    whole: bool,
+    /// For how many instances, from the one where the cursor is, the routes have the cells.
+    run: u32,
 }
 
 impl<'a> Model for LeafWrites<'a> {
@@ -136,7 +178,7 @@ impl<'a> Model for LeafWrites<'a> {
     ghost use Rattle.aol_model_types.specs.contracts.document.Model as model_row;
     ghost use Rattle.aol_model_types.specs.Rules.{outputs_of};
     ghost use Rattle.aol_flat.specs.LeafCursor.{writes_each};
-    ghost use Rattle.aol_flat.specs.Route.{IsCursorOn};
+    ghost use Rattle.aol_flat.specs.Run.{WritesCells, IsRunning};
 
     ghost Value = { CursorOf };
 
@@ -144,7 +186,7 @@ impl<'a> Model for LeafWrites<'a> {
 
     ghost view = { λ c. record { flat = c.along.flat.now; leaf = c.along.leaf } };
 
-    ghost invariant = { λ c. IsCursorOn c.along.flat.now outputs_of c.along.leaf c.along.number c.along.at.items c.many (writes_each c.along.flat.now.model c.along.leaf) c.spot c.routes.items };
+    ghost invariant = { λ c. IsRunning WritesCells c.along.flat.now outputs_of c.along.leaf c.along.number c.along.at.items c.many (writes_each c.along.flat.now.model c.along.leaf) c.spot c.routes.items c.whole c.run };
 }
 
 impl<'a> LeafWrites<'a> {
@@ -165,16 +207,38 @@ impl<'a> LeafWrites<'a> {
         ensures writes { AreWritesOf self.old.flat (first_on self.old.flat.model self.old.leaf + number) into.new }
         ensures same { self.new ≡ self.old }
     {
+        if number >= self.along.number && number - self.along.number < self.run {
+            write_run(self.routes.as_slice(), number - self.along.number, into);
+            return;
+        }
+        self.move_to(number, into);
+    }
+
+    /// The same, with a new run from that instance on.
+    fn move_to(&mut self, number: u32, into: &mut [u32])
+        requires number { number < instances_on self.old.flat.model self.old.leaf }
+        requires many { length into.old ≡ writes_each self.old.flat.model self.old.leaf }
+        ensures writes { AreWritesOf self.old.flat (first_on self.old.flat.model self.old.leaf + number) into.new }
+        ensures same { self.new ≡ self.old }
+    {
         self.along.go_to(number);
         let flat = self.along.flat;
+        let _model = flat.model();
         let routes = self.routes.as_mut_slice();
-        flat.writes_on(
-            self.along.leaf,
-            self.spot,
-            self.along.at.as_slice(),
-            routes,
-            into,
-        );
+        if !self.whole {
+            self.run = 0;
+            flat.writes_on(
+                self.along.leaf,
+                self.spot,
+                self.along.at.as_slice(),
+                routes,
+                into,
+            );
+            return;
+        }
+        let most = self.along.left();
+        self.run = fill_all(routes, self.along.at.as_slice(), most);
+        write_run(self.routes.as_slice(), 0, into);
     }
 }
 
@@ -188,11 +252,14 @@ impl Flat {
         let spot = self.leaf_spot(leaf);
         let along = Along::new(alloc, self, leaf)?;
         let routes = self.input_routes(alloc, leaf, spot, along.at.as_slice())?;
+        let whole = self.reads_are_whole(leaf, spot, routes.as_slice());
         Ok(LeafReads {
             along,
             spot,
             routes,
             many,
+            whole,
+            run: 0,
         })
     }
 
@@ -205,11 +272,14 @@ impl Flat {
         let spot = self.leaf_spot(leaf);
         let along = Along::new(alloc, self, leaf)?;
         let routes = self.output_routes(alloc, leaf, spot, along.at.as_slice())?;
+        let whole = self.writes_are_whole(leaf, spot, routes.as_slice());
         Ok(LeafWrites {
             along,
             spot,
             routes,
             many,
+            whole,
+            run: 0,
         })
     }
 }

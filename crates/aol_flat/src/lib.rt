@@ -24,6 +24,7 @@ mod place;
 mod points;
 mod refused;
 mod route;
+mod run;
 mod shared;
 mod spot;
 mod stores;

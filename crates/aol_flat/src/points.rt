@@ -1,8 +1,9 @@
 //! Points of the spaces of leaves by their ranks. Such a space may have more entries than a shape.
 
-ghost use Rattle.std.specs.Prelude.{◌≡◌, ◌+◌, ◌<◌, ◌↔◌, length, IsTrue};
+ghost use Rattle.std.specs.Prelude.{◌≡◌, ◌+◌, ◌<◌, ◌↔◌, ℕ, length, IsTrue};
 ghost use Rattle.std.specs.Bool.{OnTrue, OnFalse};
 ghost use Rattle.aol_shape.specs.Shape.{IsPointOf, size, rank, point_at};
+ghost use Rattle.aol_trail.specs.Further.{further};
 
 /// Writes the point with rank `x` of a space that has `count` points.
 pub fn unrank(entries: &[u32], count: u32, x: u32, point: &mut [u32])
@@ -62,4 +63,20 @@ pub fn go_on(entries: &[u32], count: u32, from: u32, to: u32, point: &mut [u32])
     } else {
         unrank(entries, count, to, point);
     }
+}
+
+/// For how many points from this one on only the last index differs.
+pub fn left_in(entries: &[u32], point: &[u32]) -> u32
+    requires { IsPointOf entries.now point.now }
+    ensures some { 0 < result }
+    ensures inside { (i : ℕ) → i < result → IsPointOf entries.now (further i point.now) }
+    ensures rank { (i : ℕ) → i < result → rank entries.now (further i point.now) ≡ rank entries.now point.now + i }
+{
+    let Some((entry, _)) = entries.split_last() else {
+        return 1;
+    };
+    let Some((index, _)) = point.split_last() else {
+        return 1;
+    };
+    *entry - *index
 }

@@ -2,12 +2,15 @@
 //!
 //! There is one where tilers and plain links alone stand between. Other elements are followed one by one.
 
-ghost use Rattle.std.specs.Prelude.{◌≡◌, ◌+◌, ◌^◌, ◌++◌, ◌∷◌, ◌<◌, ℕ, List, [], length, false, IfOk, IfSome, OnOk, MatchOption};
+ghost use Rattle.std.specs.Prelude.{◌≡◌, ◌+◌, ◌^◌, ◌++◌, ◌∷◌, ◌<◌, ℕ, List, [], drop, length, false, IfOk, IfSome, OnOk, MatchOption};
+ghost use Rattle.std.specs.Bool.{OnTrue};
+ghost use Rattle.std.specs.List.{AllZip};
 ghost use Rattle.aol_model_types.specs.Rules.{inputs_of, outputs_of};
 ghost use Rattle.aol_flat.specs.Feed.{IsHand, IsFeed, HasTask};
 ghost use Rattle.aol_flat.specs.Follow.{IsIndexed, IsRepetition};
 ghost use Rattle.aol_flat.specs.LeafCursor.{IsLeafPoint};
 ghost use Rattle.aol_flat.specs.NodeTable.{IsLeafSpot};
+ghost use Rattle.aol_flat.specs.Run.{AreWhole, FitsPort};
 ghost use Rattle.aol_flat.specs.Route.{HasSome, IsSpaceOf, LeadsHome, PushesStep, WayOn, AreRoutes, AreRoutesBefore, trail_to};
 
 use crate::feed::{Feed, Hand, input, output};
@@ -31,6 +34,10 @@ const FEW_INSTANCES: u32 = 64;
 pub struct Route<'a> {
     pub known: bool,
     pub trail: Trail<'a>,
+    /// The cells of the elements at the first instance of a run; none where they are too many.
+    pub cells: Vec<u32>,
+    /// What is added to each cell with each instance of the run.
+    pub stride: u32,
 }
 
 /// Puts a level after the others.
@@ -202,13 +209,15 @@ impl Flat {
 }
 
 /// The route along a way, where there is one.
-fn route_of<'a>(levels: Vec<Level<'a>>, found: Option<Home<'a>>) -> Route<'a>
+fn route_of<'a>(levels: Vec<Level<'a>>, found: Option<Home<'a>>, cells: Vec<u32>) -> Route<'a>
     ensures { MatchOption found.entry (result.known ≡ false) (λ home. result.trail ≡ trail_to levels.entry.items home.around.now home.first home.many) }
 {
     match found {
         Some(home) => Route {
             known: true,
             trail: Trail::new(levels, home),
+            cells,
+            stride: 0,
         },
         None => Route {
             known: false,
@@ -220,8 +229,15 @@ fn route_of<'a>(levels: Vec<Level<'a>>, found: Option<Home<'a>>) -> Route<'a>
                     many: 0,
                 },
             ),
+            cells,
+            stride: 0,
         },
     }
+}
+
+/// For how many elements of a pattern cells are kept: all, or none where they are too many.
+fn kept(many: u32) -> u32 {
+    if many > MAX_PATTERN { 0 } else { many }
 }
 
 /// Puts a route after the others.
@@ -258,7 +274,59 @@ fn output_count(task: &Task) -> u32
     }
 }
 
+/// Whether each input of a task, from one on, has a route that keeps its cells.
+fn inputs_fit(task: &Task, k: u32, routes: &[Route]) -> bool
+    requires { length (inputs_of task.now) < 2 ^ 32 }
+    ensures { OnTrue result (AllZip FitsPort (drop k (inputs_of task.now)) routes.now) }
+{
+    let count = input_count(task);
+    match routes.split_first() {
+        None => k >= count,
+        Some((route, later)) => {
+            k < count && route.known && route.cells.len() == input(task, k).shape.size() as usize
+                && inputs_fit(task, k + 1, later)
+        }
+    }
+}
+
+/// Whether each output of a task, from one on, has a route that keeps its cells.
+fn outputs_fit(task: &Task, k: u32, routes: &[Route]) -> bool
+    requires { length (outputs_of task.now) < 2 ^ 32 }
+    ensures { OnTrue result (AllZip FitsPort (drop k (outputs_of task.now)) routes.now) }
+{
+    let count = output_count(task);
+    match routes.split_first() {
+        None => k >= count,
+        Some((route, later)) => {
+            k < count && route.known && route.cells.len() == output(task, k).shape.size() as usize
+                && outputs_fit(task, k + 1, later)
+        }
+    }
+}
+
 impl Flat {
+    /// Whether the leaf computes and each of its inputs has a route that keeps its cells.
+    pub(crate) fn reads_are_whole(&self, leaf: u32, spot: LeafSpot, routes: &[Route]) -> bool
+        requires { IsLeafSpot self.now.model leaf spot }
+        ensures { OnTrue result (AreWhole self.now inputs_of leaf spot.node routes.now) }
+    {
+        match self.leaf(leaf).kind {
+            LeafKind::Copy => false,
+            LeafKind::Elementary(_) => inputs_fit(self.task(spot.node), 0, routes),
+        }
+    }
+
+    /// Whether the leaf computes and each of its outputs has a route that keeps its cells.
+    pub(crate) fn writes_are_whole(&self, leaf: u32, spot: LeafSpot, routes: &[Route]) -> bool
+        requires { IsLeafSpot self.now.model leaf spot }
+        ensures { OnTrue result (AreWhole self.now outputs_of leaf spot.node routes.now) }
+    {
+        match self.leaf(leaf).kind {
+            LeafKind::Copy => false,
+            LeafKind::Elementary(_) => outputs_fit(self.task(spot.node), 0, routes),
+        }
+    }
+
     /// Puts the route from an input after those of the inputs before it.
     fn push_input_route<'a>(
         &'a self,
@@ -276,7 +344,9 @@ impl Flat {
     {
         let mut levels = Vec::new(alloc);
         let found = self.way_of_input(alloc, node, port, at, space, &mut levels)?;
-        push_route(routes, route_of(levels, found))
+        let many = input(self.task(node), port).shape.size();
+        let cells = vec![in alloc; 0u32; kept(many) as usize]?;
+        push_route(routes, route_of(levels, found, cells))
     }
 
     /// The routes from all inputs of a node.
@@ -340,7 +410,9 @@ impl Flat {
     {
         let mut levels = Vec::new(alloc);
         let found = self.way_of_output(alloc, node, port, at, space, &mut levels)?;
-        push_route(routes, route_of(levels, found))
+        let many = output(self.task(node), port).shape.size();
+        let cells = vec![in alloc; 0u32; kept(many) as usize]?;
+        push_route(routes, route_of(levels, found, cells))
     }
 
     /// The routes from all outputs of a node.

@@ -46,7 +46,7 @@ route_sends : (a : NamedLft) → IsSend (route.the_row a)
 route_sends a = routes.the_send a
 
 inside_field_sends : (a : NamedLft) → IsSend (inside.the_field a).row
-inside_field_sends a = struct_send (shape (inside.the_type a)) (search (sendable, along_field_sends), (search sendable, (search (sendable, vecs.the_send, globals.the_send, allocators.the_frees, route_sends), (search sendable, tt))))
+inside_field_sends a = struct_send (shape (inside.the_type a)) (search (sendable, along_field_sends), (search sendable, (search (sendable, vecs.the_send, globals.the_send, allocators.the_frees, route_sends), (search sendable, (search sendable, (search sendable, tt))))))
 
 reads_send : (a : NamedLft) → IsSend (reads.the_row a)
 reads_send a = search (sendable, inside_field_sends) depth 20

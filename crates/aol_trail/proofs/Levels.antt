@@ -60,7 +60,7 @@ pub length-moduli : (array : List ℕ) → length (moduli_of array) ≡ length a
 length-moduli [] = refl
 length-moduli (n ∷ array) = ap suc (length-moduli array)
 
-length-residues : (array : List ℕ) (zs : List ℤ) → length zs ≡ length array → length (residues array zs) ≡ length array
+pub length-residues : (array : List ℕ) (zs : List ℤ) → length zs ≡ length array → length (residues array zs) ≡ length array
 length-residues [] zs h = refl
 length-residues (n ∷ array) [] h = absurd (omega (arith, h))
 length-residues (n ∷ array) (z ∷ zs) h = ap suc (length-residues array zs (omega (arith, h)))
@@ -76,7 +76,7 @@ residues_within [] zs p h = tt
 residues_within (n ∷ array) [] p h = absurd (omega (arith, h))
 residues_within (n ∷ array) (z ∷ zs) p h = (mul-le-mul_right (size array) (omega (arith, wrapped-below z n (omega (arith, p.0.0)))), residues_within array zs p.1 (omega (arith, h)))
 
-wrapped_inside : (zs : List ℤ) (array : List ℕ) → AllByRecursion IsEntry array → length zs ≡ length array → IsPointOf array (wrapped_point zs array)
+pub wrapped_inside : (zs : List ℤ) (array : List ℕ) → AllByRecursion IsEntry array → length zs ≡ length array → IsPointOf array (wrapped_point zs array)
 wrapped_inside [] [] p h = tt
 wrapped_inside [] (n ∷ array) p h = absurd (omega (arith, h))
 wrapped_inside (z ∷ zs) [] p h = absurd (omega (arith, h))
@@ -122,11 +122,18 @@ module _ (t : TilerOf) (array space pattern r i : List ℕ) (fits : Fits t array
       ∙ residues_rank array (plus offset reference)
       ∙ ap (λ v. rank array (wrapped_point v array)) whole
 
-  address_small : address t array r i < 2 ^ 32
+  pub address_small : address t array r i < 2 ^ 32
   unfolding reference
   address_small =
       let n : length (place t r i) ≡ length array = length-plus_columns reference t.fitting (integers i) ∙ reference_length in
       omega (arith, shape.points, rank-lt-size array (wrapped_point (place t r i) array) (wrapped_inside (place t r i) array shape.entry n))
+
+  -- an element's place is its offset and the reference element
+  pub place_within : plus_within (offset_at t.fitting array i) (moduli_of array) (residues array (plus_columns t.origin t.paving (integers r))) ≡ residues array (place t r i)
+  unfolding reference offset
+  place_within =
+      ap (λ w. plus_within (residues array offset) (moduli_of array) w) (sym (append-nil (residues array reference)))
+      ∙ (residues-plus array offset reference [] shape.entry offset_length reference_length ∙ ap (residues array) whole)
 
   pub adds : Adds t array r i (offset_at t.fitting array i) (moduli_of array) (residues array (plus_columns t.origin t.paving (integers r)))
   unfolding reference offset
@@ -235,7 +242,7 @@ one_more (y ∷ z) (c ∷ v) i =
     let first : y +ℤ pos (i + 1) *ℤ c ≡ (y +ℤ pos i *ℤ c) +ℤ pos 1 *ℤ c = omega (arith, ints, sum-times (pos i) (pos 1) c) in
     ap (λ w. w ∷ plus z (times (pos (i + 1)) v)) first ∙ ap (λ ws. ((y +ℤ pos i *ℤ c) +ℤ pos 1 *ℤ c) ∷ ws) (one_more z v i)
 
-next_column : (n : ℕ) → n ≤ 12 → (z : List ℤ) (cs : List (List ℤ)) (front : List ℕ) (i : ℕ) → AllByRecursion (λ c. length c ≡ n) cs → length cs ≡ length (front ++ i ∷ [])
+pub next_column : (n : ℕ) → n ≤ 12 → (z : List ℤ) (cs : List (List ℤ)) (front : List ℕ) (i : ℕ) → AllByRecursion (λ c. length c ≡ n) cs → length cs ≡ length (front ++ i ∷ [])
     → plus_columns z cs (integers (front ++ (i + 1) ∷ [])) ≡ plus (plus_columns z cs (integers (front ++ i ∷ []))) (plus_columns (noughts n) (last_of cs) (pos 1 ∷ []))
 next_column n few z [] [] i even h = absurd (omega (arith, h))
 next_column n few z [] (f ∷ front) i even h = absurd (omega (arith, h))

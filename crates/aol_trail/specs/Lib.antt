@@ -1,2 +1,3 @@
 pub mod Trail
 pub mod Level
+pub mod Further

@@ -1,16 +1,17 @@
 //! One tiler on a trail.
 
-ghost use Rattle.std.specs.Prelude.{◌≡◌, ◌+◌, ◌*◌, ◌<◌, ◌≤◌, ◌==◌, ◌++◌, length, drop, true, IfOk, OnOk};
+ghost use Rattle.std.specs.Prelude.{◌≡◌, ◌+◌, ◌*◌, ◌^◌, ◌<◌, ◌≤◌, ◌==◌, ◌++◌, ◌↔◌, ℕ, length, drop, true, IfOk, OnOk, IsTrue};
 ghost use Rattle.std.specs.List.{list_all, AllByRecursion};
 ghost use Rattle.aol_shape.specs.Shape.{IsPointOf, IsShape, size, point_at};
 ghost use Rattle.aol_shape.specs.Vectors.{IsVector};
 ghost use Rattle.aol_tiler.specs.Makers.{IsIndex};
 ghost use Rattle.aol_tiler.specs.Tiler.{Fits};
 ghost use Rattle.std.specs.Bool.{OnTrue};
+ghost use Rattle.aol_trail.specs.Further.{EndsAt, step_further, stride_of};
 ghost use Rattle.aol_trail.specs.Level.{offset_at, step_of, AreOffsets, IsNextIn};
 ghost use Rattle.aol_trail.specs.Trail.{IsStepAt, step_at, step_rank};
 
-use crate::residues::{add_within, total, write_moduli, write_residues};
+use crate::residues::{add_within, room, sum_of, total, write_moduli, write_residues};
 use aol_shape::{IntVec, NoMemory, Shape, unrank_into};
 use aol_tiler::Tiler;
 use std::alloc::Global;
@@ -196,5 +197,41 @@ impl<'a> Level<'a> {
         let begin = x as usize * self.rank;
         let offset = &self.offsets.as_slice()[begin..begin + self.rank];
         total(offset, &self.moduli[..self.rank], &self.place[..self.rank])
+    }
+    /// Whether the last of so many indices is one of this repetition's.
+    pub fn ends_at(&self, many: usize) -> bool
+        requires { self.now.from + length self.now.space ≤ many }
+        ensures { IsTrue result ↔ EndsAt many self.now }
+    {
+        let own = self.space.as_slice().len();
+        own > 0 && self.from + own == many
+    }
+
+    /// What one more repetition in the last dimension adds to the rank of an element, unless an index wraps.
+    pub fn stride(&self) -> u32
+        ensures { result ≡ stride_of self.now }
+    {
+        sum_of(&self.step[..self.rank])
+    }
+
+    /// How often just the stride is added to the rank of an element, repetition by repetition in the last dimension;
+    /// at most so often.
+    pub fn room(&self, x: u32, most: u32) -> u32
+        requires element { x < size self.now.pattern }
+        requires some { 0 < length self.now.space }
+        ensures most { result ≤ most }
+        ensures even { (i : ℕ) → i ≤ result → step_rank (step_further i self.now) x ≡ step_rank self.now x + i * stride_of self.now }
+        ensures small { (i : ℕ) → i ≤ result → step_rank self.now x + i * stride_of self.now < 2 ^ 32 }
+    {
+        let rank = self.rank;
+        let begin = x as usize * rank;
+        let offset = &self.offsets.as_slice()[begin..begin + rank];
+        room(
+            offset,
+            &self.moduli[..rank],
+            &self.place[..rank],
+            &self.step[..rank],
+            most,
+        )
     }
 }

@@ -6,7 +6,9 @@
 
 mod level;
 mod residues;
+mod stretch;
 mod trail;
 
 pub use level::Level;
+pub use stretch::Stretch;
 pub use trail::{Home, Trail};

@@ -1,6 +1,6 @@
 //! Places kept modulo an array, each index times the size of the dimensions behind.
 
-ghost use Rattle.std.specs.Prelude.{◌≡◌, ◌+◌, ◌*◌, ◌^◌, ◌<◌, ◌≤◌, ◌==◌, ◌+ℤ◌, ◌*ℤ◌, ◌++◌, pos, length, nat_abs, drop, sum, true};
+ghost use Rattle.std.specs.Prelude.{◌≡◌, ◌+◌, ◌*◌, ◌^◌, ◌<◌, ◌≤◌, ◌==◌, ◌+ℤ◌, ◌*ℤ◌, ◌++◌, ℕ, pos, length, nat_abs, drop, sum, true};
 ghost use Rattle.std.specs.List.{list_all, AllByRecursion};
 ghost use Rattle.aol_shape.specs.Shape.{IsEntry, size, max_points};
 ghost use Rattle.aol_shape.specs.Vectors.{IsVector, IsVectorEntry, wrapped, plus_columns};
@@ -8,6 +8,7 @@ ghost use Rattle.aol_tiler.specs.Makers.{IsIndex};
 ghost use Rattle.aol_tiler.specs.Sums.{entry_plus};
 ghost use Rattle.aol_tiler.specs.Tiler.{integers};
 ghost use Rattle.aol_tiler.specs.Walk.{added, plus_within, AreWithin, moduli_of, residues};
+ghost use Rattle.aol_trail.specs.Further.{HasRoom};
 
 use aol_shape::IntVec;
 
@@ -153,4 +154,61 @@ pub fn add_within(place: &mut [u32], moduli: &[u32], step: &[u32])
     };
     *entry = added(*entry, *more, *modulus);
     add_within(place, moduli, step);
+}
+
+/// The lesser of two numbers.
+fn lesser(a: u32, b: u32) -> u32
+    ensures first { result ≤ a }
+    ensures second { result ≤ b }
+{
+    if a < b { a } else { b }
+}
+
+/// How often a stride can be added to a number with the sum staying below a modulus; at most so often.
+fn room_below(number: u32, modulus: u32, stride: u32, most: u32) -> u32
+    ensures most { result ≤ most }
+    ensures room { (i : ℕ) → 0 < i → i ≤ result → number + i * stride < modulus }
+{
+    if number >= modulus {
+        return 0;
+    }
+    if stride == 0 {
+        return most;
+    }
+    lesser(most, (modulus - 1 - number) / stride)
+}
+
+/// How often a step can be added to the sum of an offset and a place with no entry coming to its modulus; at most so often.
+pub fn room(offset: &[u32], moduli: &[u32], place: &[u32], step: &[u32], most: u32) -> u32
+    requires offset { AreWithin offset.now moduli.now }
+    requires place { AreWithin place.now moduli.now }
+    requires small { AllByRecursion (λ m. m ≤ max_points) moduli.now }
+    ensures most { result ≤ most }
+    ensures room { (i : ℕ) → 0 < i → i ≤ result → HasRoom i (plus_within offset.now moduli.now place.now) moduli.now step.now }
+{
+    let Some((entry, offset)) = offset.split_first() else {
+        return most;
+    };
+    let Some((modulus, moduli)) = moduli.split_first() else {
+        return most;
+    };
+    let Some((more, place)) = place.split_first() else {
+        return 0;
+    };
+    let Some((stride, step)) = step.split_first() else {
+        return most;
+    };
+    let later = room(offset, moduli, place, step, most);
+    room_below(added(*entry, *more, *modulus), *modulus, *stride, later)
+}
+
+/// The sum of some numbers.
+pub fn sum_of(numbers: &[u32]) -> u32
+    requires { sum numbers.now < 2 ^ 32 }
+    ensures { result ≡ sum numbers.now }
+{
+    match numbers.split_first() {
+        None => 0,
+        Some((number, later)) => *number + sum_of(later),
+    }
 }

@@ -1,11 +1,13 @@
 //! The way of a port's elements to the cells where they are stored.
 
-ghost use Rattle.std.specs.Prelude.{◌≡◌, ◌+◌, ◌*◌, ◌^◌, ◌<◌, ◌≤◌, length, map};
+ghost use Rattle.std.specs.Prelude.{◌≡◌, ◌+◌, ◌*◌, ◌^◌, ◌<◌, ◌≤◌, ℕ, length, map};
 ghost use Rattle.std.specs.List.{AllByRecursion};
 ghost use Rattle.aol_shape.specs.Shape.{IsPointOf, rank};
-ghost use Rattle.aol_trail.specs.Trail.{IsStepAt, IsTrailAt, Reaches, cell_on, rank_on, step_at, trail_at};
+ghost use Rattle.aol_trail.specs.Further.{further};
+ghost use Rattle.aol_trail.specs.Trail.{IsStepAt, IsTrailAt, Reaches, base_at, cell_on, rank_on, step_at, trail_at};
 
 use crate::level::Level;
+use crate::stretch::{Stretch, ranks};
 use std::marker::Model;
 
 /// The array at the end of a trail: its first cell, how many cells each instance has, and the space of its instances.
@@ -27,6 +29,7 @@ pub struct Trail<'a> {
 impl<'a> Model for Trail<'a> {
     ghost use Rattle.std.specs.Coded.{codes};
     ghost use Rattle.aol_tiler.specs.Matrices.{tiler_code};
+    ghost use Rattle.aol_trail.specs.Further.{further};
     ghost use Rattle.aol_trail.specs.Trail.{TrailOf};
 
     ghost Value = { TrailOf };
@@ -62,7 +65,7 @@ fn move_all(levels: &mut [Level<'_>], at: &[u32])
 }
 
 /// The rank of the element at the end of some levels.
-fn rank_over(levels: &[Level], x: u32) -> u32
+pub fn rank_over(levels: &[Level], x: u32) -> u32
     requires { Reaches levels.now x }
     ensures { result ≡ rank_on levels.now x }
 {
@@ -102,5 +105,39 @@ impl<'a> Trail<'a> {
         ensures { result ≡ cell_on self.now x }
     {
         self.base + rank_over(self.levels.as_slice(), x)
+    }
+    /// What is added to the first cell of the array at the end as the last index of the instance grows.
+    fn base_stride(&self, at: &[u32]) -> u32
+        requires { IsTrailAt at.now self.now }
+        ensures { (i : ℕ) → base_at (further i at.now) self.now ≡ base_at at.now self.now + i * result }
+    {
+        if at.is_empty() {
+            return 0;
+        }
+        if self.home.around.len() != at.len() {
+            return 0;
+        }
+        self.home.many
+    }
+
+    /// How the cell of the element of rank `x` goes on along the last index of the instance, at most so often.
+    ///
+    /// `at` has the indices of the instance where the trail stands.
+    pub fn stretch(&self, at: &[u32], x: u32, most: u32) -> Stretch
+        requires there { IsTrailAt at.now self.now }
+        requires stands { trail_at at.now self.now ≡ self.now }
+        requires reaches { (i : ℕ) → i ≤ most → Reaches (map (step_at (further i at.now)) self.now.steps) x }
+        requires small { (i : ℕ) → i ≤ most → cell_on (trail_at (further i at.now) self.now) x < 2 ^ 32 }
+        ensures most { result.room ≤ most }
+        ensures even { (i : ℕ) → i ≤ result.room → cell_on (trail_at (further i at.now) self.now) x ≡ cell_on self.now x + i * result.stride }
+    {
+        let own = ranks(self.levels.as_slice(), at, x, most);
+        if own.room == 0 {
+            return own;
+        }
+        Stretch {
+            stride: own.stride + self.base_stride(at),
+            room: own.room,
+        }
     }
 }

@@ -30,7 +30,7 @@ write_all-requires-clause-met c =
     let same = get_or_default routes k c.index-routes-k.result c.index-routes-k-2.result low in
     let known : IsTrue w.known = subst (λ (z : Route). IsTrue z.known) same c.if-not-routes-k.false in
     let one = route_at f outputs_of c.args.node k routes c.index-routes-k-2.result c.requires.routes low in
-    let new : Route = record { known = w.known; trail = c.go_to.new.self } in
+    let new : Route = record { known = w.known; trail = c.go_to.new.self; cells = w.cells; stride = w.stride } in
     let there = get_or-set_same routes k new c.index-routes-k-3.result low in
     subst (λ (z : Route). CanGive z.trail (length c.args.into.now)) (sym there)
     (trail_gives f c.requires.flat outputs_of c.args.node k (length c.args.into.now) c.args.at.now w.trail c.go_to.new.self (one known) c.go_to.ensures c.requires.port)
@@ -45,7 +45,7 @@ returns-clause-cells c =
     let same = get_or_default routes k c.index-routes-k.result c.index-routes-k-2.result low in
     let known : IsTrue w.known = subst (λ (z : Route). IsTrue z.known) same c.if-not-routes-k.false in
     let one = route_at f outputs_of c.args.node k routes c.index-routes-k-2.result c.requires.routes low in
-    let new : Route = record { known = w.known; trail = c.go_to.new.self } in
+    let new : Route = record { known = w.known; trail = c.go_to.new.self; cells = w.cells; stride = w.stride } in
     let there = get_or-set_same routes k new c.index-routes-k-3.result low in
     let into = c.write_all.new.into in
     let count : length into ≡ length c.args.into.now = omega arith in
@@ -62,5 +62,5 @@ returns-clause-routes c =
     let same = get_or_default routes k c.index-routes-k.result c.index-routes-k-2.result low in
     let known : IsTrue w.known = subst (λ (z : Route). IsTrue z.known) same c.if-not-routes-k.false in
     let one = route_at f outputs_of c.args.node k routes c.index-routes-k-2.result c.requires.routes low in
-    let new : Route = record { known = w.known; trail = c.go_to.new.self } in
+    let new : Route = record { known = w.known; trail = c.go_to.new.self; cells = w.cells; stride = w.stride } in
     route_set f outputs_of c.args.node k routes new c.requires.routes (route_moved f outputs_of c.args.node k c.args.at.now w w.known c.go_to.new.self known known one c.go_to.ensures)

@@ -2,7 +2,9 @@ use Rattle.std.proofs.Common.{refl, sym, subst}
 use Rattle.aol_model_types.specs.Rules.{outputs_of}
 use Rattle.aol_flat.specs.LeafCursor.{IsLeafPoint, writes_each}
 use Rattle.aol_flat.proofs.Alongs.{leaf_point}
+use Rattle.aol_flat.specs.Run.{AreWhole, WritesCells}
 use Rattle.aol_flat.proofs.Routes.{routes_seen, cursor_on}
+use Rattle.aol_flat.proofs.Running.{no_run, on_true, whole_seen}
 use Rattle.aol_flat.proofs.flat.Flat.writes.Goals as goal
 
 pub output_routes-requires-clause-point : goal.output_routes-requires-clause-point
@@ -18,5 +20,7 @@ invariant_of-result c =
     let g = c.in_ok-along.ensures in
     let spot = c.leaf_spot-spot.result in
     let routes = c.in_ok-routes.routes.items in
-    cursor_on f along.flat.now outputs_of c.args.leaf along.leaf along.number along.number along.at.items c.writes_of-many.result writes_each spot routes g.flat g.leaf refl g.along c.writes_of-many.ensures c.leaf_spot-spot.ensures
-    (routes_seen f along.flat.now outputs_of spot.node routes routes g.flat refl c.in_ok-routes.ensures)
+    let on = cursor_on f along.flat.now outputs_of c.args.leaf along.leaf along.number along.number along.at.items c.writes_of-many.result writes_each spot routes g.flat g.leaf refl g.along c.writes_of-many.ensures c.leaf_spot-spot.ensures
+    (routes_seen f along.flat.now outputs_of spot.node routes routes g.flat refl c.in_ok-routes.ensures) in
+    let whole : AreWhole f outputs_of c.args.leaf spot.node c.as_slice-2.result.now → AreWhole along.flat.now outputs_of along.leaf spot.node routes = whole_seen f along.flat.now outputs_of c.args.leaf along.leaf spot.node c.as_slice-2.result.now routes g.flat g.leaf (sym c.as_slice-2.ensures.value) in
+    record { on = on; whole_is = λ t. whole (on_true c.writes_are_whole-whole.result t c.writes_are_whole-whole.ensures); runs_are = no_run (WritesCells along.flat.now along.leaf) along.number c.writes_of-many.result routes }

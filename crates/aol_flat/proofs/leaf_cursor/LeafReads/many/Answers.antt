@@ -5,4 +5,4 @@ use Rattle.aol_flat.proofs.Alongs.{each_reads}
 use Rattle.aol_flat.proofs.leaf_cursor.LeafReads.many.Goals as goal
 
 pub returns-clause-each : goal.returns-clause-each
-returns-clause-each c = each_reads c.args.self.now c.self.inside.many (c.self.invariant.many_is ∙ ap (λ (v : CursorOf). reads_each v.flat.model v.leaf) c.self.view_is)
+returns-clause-each c = each_reads c.args.self.now c.self.inside.many (c.self.invariant.on.many_is ∙ ap (λ (v : CursorOf). reads_each v.flat.model v.leaf) c.self.view_is)

@@ -76,11 +76,11 @@ computes_elementary m l a w = computes_below m (length m.tasks) (node_task m [])
 -- ---- instances by two parts of a point
 
 -- an instance of a node, or a copy at one
-abbrev at_work : Work → Place → List ℕ → Instance
+abbrev pub at_work : Work → Place → List ℕ → Instance
 at_work Computes place y = Run place
 at_work (Copies k n) place y = Copy place k (take n y) (drop n y)
 
-on_split : (l : Leaf) (w : Work) (x y : List ℕ) → l.work ≡ w → length x ≡ length (space_around l.node) → (w ≡ Computes → y ≡ []) → instance_on l (x ++ y) ≡ at_work w (place_on l.node x) y
+pub on_split : (l : Leaf) (w : Work) (x y : List ℕ) → l.work ≡ w → length x ≡ length (space_around l.node) → (w ≡ Computes → y ≡ []) → instance_on l (x ++ y) ≡ at_work w (place_on l.node x) y
 on_split l Computes x y e count none =
     ap (λ (w : Work). instance_on (record { node = l.node; work = w; space = l.space }) (x ++ y)) e
     ∙ ap (λ z. Run (place_on l.node z)) (ap (λ z. x ++ z) (none refl) ∙ append-nil x)

@@ -1,7 +1,9 @@
 pub mod Comes
 pub mod Counts
+pub mod FlatKept
 pub mod LeafComes
 pub mod Lookups
+pub mod MapMade
 pub mod NodeComes
 pub mod NodeSteps
 pub mod PlacedNumbers

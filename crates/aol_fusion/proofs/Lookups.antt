@@ -57,13 +57,13 @@ record OriginFrom {X Y : Type 0} (change : X → List Y) (from : ℕ) (xs : List
   among : IsAmong (change old) y
   listed : slice_get (origins_from change from xs) k ≡ Some (from + number)
 
-before_or_after : (k n : ℕ) → (k < n) ⊎ ((j : ℕ) × (k ≡ n + j))
+pub before_or_after : (k n : ℕ) → (k < n) ⊎ ((j : ℕ) × (k ≡ n + j))
 before_or_after zero zero = inr (0, refl)
 before_or_after zero (suc n) = inl (omega arith)
 before_or_after (suc k) zero = inr (suc k, omega arith)
 before_or_after (suc k) (suc n) = elim (before_or_after k n) [ inl h ↦ inl (omega (arith, h)) | inr h ↦ inr (h.0, omega (arith, h.1)) ]
 
-in_front : {X : Type 0} (xs ys : List X) (k : ℕ) → k < length xs → slice_get (xs ++ ys) k ≡ slice_get xs k
+pub in_front : {X : Type 0} (xs ys : List X) (k : ℕ) → k < length xs → slice_get (xs ++ ys) k ≡ slice_get xs k
 in_front [] ys k h = absurd (omega (arith, h))
 in_front (x ∷ xs) ys zero h = refl
 in_front (x ∷ xs) ys (suc k) h = in_front xs ys k (omega (arith, h))

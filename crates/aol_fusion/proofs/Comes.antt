@@ -1,43 +1,34 @@
 -- Where the nodes of the fused model come from.
-use Rattle.std.proofs.Common.{◌≡◌, ℕ, zero, suc, ◌+◌, ◌<◌, Bool, true, false, cond, not, ◌&&◌, ◌==◌, List, [], ◌∷◌, ◌++◌, length, take, map, Option, Some, None, option_map, option_and_then, slice_get, slice_index, sym, ◌∙◌, ap, refl, arith, subst, append_assoc, ◌⊎◌, inl, inr}
+use Rattle.std.proofs.Common.{◌≡◌, ℕ, zero, suc, ◌+◌, ◌<◌, Bool, true, false, cond, List, ◌∷◌, length, take, Option, Some, option_map, slice_get, sym, ◌∙◌, ap, refl, arith, subst}
 use Rattle.std.specs.List.{IsAmong}
-use Rattle.std.proofs.lemmas.List.{append-nil, length-append}
-use Rattle.std.proofs.lemmas.Option.{none-some, get_or_from_slice_get}
 use Rattle.aol_shape.specs.Lists.{same}
 use Rattle.aol_shape.specs.Shape.{IsPointOf}
-use Rattle.aol_tiler.specs.Tiler.{address_point}
 use Rattle.aol_model_types.specs.declared.document.Model.{Model}
 use Rattle.aol_model_types.specs.declared.task.Compound.{Compound}
 use Rattle.aol_model_types.specs.declared.task.Part.{Part}
 use Rattle.aol_model_types.specs.declared.task.Repeated.{Repeated}
 use Rattle.aol_model_types.specs.declared.task.Task.{Task}
 use Rattle.aol_model_types.specs.declared.task.Task.TheVariants as tasks
-use Rattle.aol_model_types.specs.Rules.{task_name, task_named, part_named}
+use Rattle.aol_model_types.specs.Rules.{task_name, task_named}
 use Rattle.aol_flat.specs.Instance.{Leaf, leaves, leaves_below}
-use Rattle.aol_flat.specs.Node.{Branch, ToPart, ToBody, Node, space_around, place_on, task_under, node_task}
+use Rattle.aol_flat.specs.Node.{ToPart, ToBody, Node, space_around, place_on, node_task}
 use Rattle.aol_flat.specs.Numbered.{inner_names, StandOnEarlier, number_named}
-use Rattle.aol_flat.specs.Place.{Place, Down, IntoPart, IntoRepetition}
-use Rattle.aol_flat.specs.Tasks.{main_task, part_number}
+use Rattle.aol_flat.specs.Place.{Place, IntoPart, IntoRepetition}
 use Rattle.aol_flat.proofs.Among.{map_among, get_among}
-use Rattle.aol_flat.proofs.Find.{and_then_some}
-use Rattle.aol_flat.proofs.Inside.{point_split, point_both, place_in_body}
-use Rattle.aol_flat.proofs.Names.{same-self, same-equal}
+use Rattle.aol_flat.proofs.Names.{same-equal}
 use Rattle.aol_flat.proofs.NodeTasks.{HasSpaces, task_on}
 use Rattle.aol_flat.proofs.Order.{stand_on_earlier}
 use Rattle.aol_flat.proofs.TaskNumbers.{found}
 use Rattle.aol_change.specs.Change.{is_named, name_at, old_place}
-use Rattle.aol_change.specs.Unblocked.{entries_before}
-use Rattle.aol_change.proofs.Below.{own_name, node_named, before_named, before_other}
-use Rattle.aol_fusion_parts.specs.Changed.{first_goes, changed_part}
+use Rattle.aol_change.proofs.Below.{own_name}
 use Rattle.aol_fusion_parts.specs.Fuse.{Fusing}
 use Rattle.aol_fusion_parts.specs.Made.{fused_names}
-use Rattle.aol_fusion_rules.proofs.NewNumbers.{other_name}
 use Rattle.aol_fusion_rules.proofs.Sound.{IsFusing}
 use Rattle.aol_paving.proofs.NewLeaves.{Enough, enough_below, numbered_there}
 use Rattle.aol_fusion.specs.Map.{old_part, unfuse, unfuse_block, unfuse_once}
-use Rattle.aol_fusion.specs.Numbers.{leaves_of, before_part, part_leaves, first_leaf}
-use Rattle.aol_fusion.proofs.Counts.{leaf_of_part}
-use Rattle.aol_fusion.proofs.Lookups.{IsOldName, old_name_of, in_next, inner_there, next, changed_task, block_task, once_task, pair_task, whole_task}
+use Rattle.aol_fusion.specs.Numbers.{leaves_of, first_leaf}
+use Rattle.aol_fusion.proofs.ManyLeaves.{leaf_of_part}
+use Rattle.aol_fusion.proofs.Lookups.{in_next, inner_there, next, changed_task}
 
 module _ (f : Fusing) (h : IsFusing f) where
   abbrev m : Model

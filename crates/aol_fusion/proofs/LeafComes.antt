@@ -1,50 +1,34 @@
 -- Each leaf of the fused model comes from an old one, instance by instance.
-use Rattle.std.proofs.Common.{◌≡◌, ℕ, zero, suc, ◌+◌, ◌-◌, ◌*◌, ◌<◌, ◌≤◌, Bool, true, false, cond, ◌==◌, List, [], ◌∷◌, ◌++◌, length, take, drop, map, flat_map, Option, Some, None, option_map, option_and_then, unwrap_or, slice_get, sym, ◌∙◌, ap, refl, arith, subst, append_assoc, ◌⊎◌, inl, inr}
+use Rattle.std.proofs.Common.{◌≡◌, ℕ, zero, suc, ◌+◌, ◌-◌, ◌*◌, ◌<◌, List, [], ◌∷◌, ◌++◌, length, take, drop, map, flat_map, Option, Some, None, option_and_then, slice_get, sym, ◌∙◌, ap, refl, arith, subst, append_assoc, inl, inr}
 use Rattle.std.specs.List.{IsAmong, enumerate_from}
 use Rattle.std.proofs.Math.Seq.{take-append_seam, drop-append_seam}
 use Rattle.std.proofs.lemmas.List.{append-nil, length-append}
-use Rattle.std.proofs.lemmas.Option.{none-some, get_or_from_slice_get}
-use Rattle.aol_shape.specs.Lists.{same}
 use Rattle.aol_shape.specs.Shape.{IsPointOf, size, point_at}
 use Rattle.aol_shape.proofs.Points.{point_at-is}
 use Rattle.aol_shape.proofs.Sizes.{size_both}
 use Rattle.aol_tiler.specs.Tiler.{address_point}
 use Rattle.aol_model_types.specs.declared.document.Model.{Model}
-use Rattle.aol_model_types.specs.declared.task.Compound.{Compound}
-use Rattle.aol_model_types.specs.declared.task.Copied.{Copied}
 use Rattle.aol_model_types.specs.declared.task.Elementary.{Elementary}
 use Rattle.aol_model_types.specs.declared.task.Part.{Part}
 use Rattle.aol_model_types.specs.declared.task.Task.{Task}
 use Rattle.aol_model_types.specs.declared.task.Task.TheVariants as tasks
-use Rattle.aol_model_types.specs.Rules.{task_name, task_named}
+use Rattle.aol_model_types.specs.Rules.{task_named}
 use Rattle.aol_flat.specs.Instance.{Leaf, Work, Computes, Copies, Instance, Run, Copy, leaves, leaves_below, reshape_leaf, instance_on}
 use Rattle.aol_flat.specs.Keep.{runs_task}
-use Rattle.aol_flat.specs.LeafCursor.{first_on}
 use Rattle.aol_flat.specs.Node.{ToPart, ToBody, Node, space_around, place_on, task_under, node_task}
 use Rattle.aol_flat.specs.Place.{Place}
 use Rattle.aol_flat.proofs.Among.{among_append, among_map, among_flat_map}
 use Rattle.aol_flat.proofs.Inside.{point_split, point_both, point_length}
-use Rattle.aol_flat.proofs.LeafForm.{LeafForm, IsCopyForm}
-use Rattle.aol_flat.proofs.Names.{same-self, same-equal}
-use Rattle.aol_flat.proofs.NodeTasks.{HasSpaces, task_on}
 use Rattle.aol_flat.proofs.SourceBack.{at_number}
-use Rattle.aol_change.specs.Change.{is_named, name_at, old_place}
-use Rattle.aol_change.specs.Unblocked.{entries_before}
-use Rattle.aol_change.proofs.Below.{own_name, node_named}
+use Rattle.aol_change.specs.Change.{old_place}
 use Rattle.aol_change.proofs.EqualParts.{numbers_get, numbers_many}
-use Rattle.aol_fusion_parts.specs.Changed.{first_goes, changed_from, changed_to, changed_reshape, copied_to}
-use Rattle.aol_fusion_parts.specs.Fuse.{Fusing, fused_ports}
-use Rattle.aol_fusion_parts.specs.Made.{fused_names}
-use Rattle.aol_fusion_parts.specs.Ports.{unjoined_ports}
+use Rattle.aol_fusion_parts.specs.Fuse.{Fusing}
 use Rattle.aol_fusion_rules.proofs.Sound.{IsFusing}
-use Rattle.aol_fusion.specs.Map.{origins_from, old_reshape, unfuse, unfuse_reshape, fuse_origin}
-use Rattle.aol_fusion.specs.Numbers.{leaves_of, first_leaf, copy_leaves, old_leaf, numbers_in_compounds, numbers_in_leaf, numbers_of_leaf}
-use Rattle.aol_fusion.proofs.Comes.{HasLeaves, now, whole_enough, old_order, now_other, low_apart, is_compound, name_there}
-use Rattle.aol_fusion.proofs.Counts.{leaf_of_reshape}
-use Rattle.aol_fusion.proofs.Lookups.{next, origin, inner_there, changed_task, changed_of}
-use Rattle.aol_fusion.proofs.NodeComes.{OldAt, AsOld, InBlock, AtWhole, Comes, as_old, in_block, at_whole, at_pair, at_first, at_second}
+use Rattle.aol_fusion.specs.Map.{unfuse, fuse_origin}
+use Rattle.aol_fusion.specs.Numbers.{numbers_in_compounds, numbers_in_leaf}
+use Rattle.aol_fusion.proofs.Lookups.{next}
 use Rattle.aol_fusion.proofs.NodeSteps.{block_inside}
-use Rattle.aol_fusion.proofs.PlacedNumbers.{compounds_many, IsPlacedAt, placed}
+use Rattle.aol_fusion.proofs.PlacedNumbers.{compounds_many, placed}
 
 -- ---- leaves that compute
 

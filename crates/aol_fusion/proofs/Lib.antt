@@ -1,9 +1,10 @@
 pub mod Comes
-pub mod Counts
 pub mod FlatKept
 pub mod LeafComes
 pub mod Lookups
+pub mod ManyLeaves
 pub mod MapMade
 pub mod NodeComes
 pub mod NodeSteps
 pub mod PlacedNumbers
+pub mod Told

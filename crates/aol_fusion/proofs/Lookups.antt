@@ -1,10 +1,10 @@
 -- The tasks of the fused model by their names, and the parts of the changed compound by their numbers.
-use Rattle.std.proofs.Common.{◌≡◌, ℕ, zero, suc, ◌+◌, ◌<◌, Bool, true, false, cond, not, ◌&&◌, ◌||◌, List, [], ◌∷◌, ◌++◌, length, map, flat_map, find, Option, Some, None, is_some, is_none, slice_get, slice_index, sym, ◌∙◌, ap, refl, arith, subst, ◌⊎◌, inl, inr}
+use Rattle.std.proofs.Common.{◌≡◌, ℕ, zero, suc, ◌+◌, ◌<◌, Bool, true, false, cond, not, ◌||◌, List, [], ◌∷◌, ◌++◌, length, map, flat_map, Option, Some, None, is_some, slice_get, sym, ◌∙◌, ap, refl, arith, subst, ◌⊎◌, inl, inr}
 use Rattle.std.specs.Option.{option_or}
 use Rattle.std.specs.List.{IsAmong, list_any, position_or_len}
-use Rattle.std.proofs.lemmas.List.{append_assoc, length-append, length-map}
+use Rattle.std.proofs.lemmas.List.{length-map}
 use Rattle.std.proofs.lemmas.List.Folds.{find-append}
-use Rattle.std.proofs.lemmas.Option.{none-some, get_or_from_slice_get, slice_get-map}
+use Rattle.std.proofs.lemmas.Option.{none-some}
 use Rattle.aol_shape.specs.Lists.{same}
 use Rattle.aol_model_types.specs.declared.document.Model.{Model}
 use Rattle.aol_model_types.specs.declared.place.Key.TheVariants.{KModel, KTasks, KMain, KParts}
@@ -16,13 +16,12 @@ use Rattle.aol_model_types.specs.declared.task.Task.{Task}
 use Rattle.aol_model_types.specs.declared.task.Task.TheVariants as tasks
 use Rattle.aol_model_types.specs.Places.{to_key, to_index}
 use Rattle.aol_model_types.specs.Rules.{ShapesAgree, check, each, each_from, task_checks, kind_checks, part_checks, is_new_task, is_new_part, is_earlier_task, main_is_task, task_name, task_named, inputs_of, outputs_of}
-use Rattle.aol_flat.specs.Accept.{IsSound}
 use Rattle.aol_flat.specs.Numbered.{inner_names}
 use Rattle.aol_flat.specs.Tasks.{part_number}
 use Rattle.aol_flat.proofs.Among.{among_map, get_among}
 use Rattle.aol_flat.proofs.Checked.{HoldsOfCompound, of_compound, of_repeated, member, member_at, task_of, named_earlier}
 use Rattle.aol_flat.proofs.Different.{Hold, hold-parts}
-use Rattle.aol_flat.proofs.Names.{both-true, same-self, same-equal, slice_get-left, slice_get-right}
+use Rattle.aol_flat.proofs.Names.{both-true, same-self, same-equal, slice_get-right}
 use Rattle.aol_flat.proofs.Once.{there, found_among}
 use Rattle.aol_change.specs.Change.{put_before}
 use Rattle.aol_change.proofs.Below.{own_name}
@@ -36,9 +35,9 @@ use Rattle.aol_fusion_parts.specs.Whole.{fused_repetition}
 use Rattle.aol_fusion_rules.proofs.Fronts.{found_left}
 use Rattle.aol_fusion_rules.proofs.Names.{new_task_apart}
 use Rattle.aol_fusion_rules.proofs.NewNumbers.{other_name}
-use Rattle.aol_fusion_rules.proofs.Sound.{IsFusing, names_of_fusion, with_w, z, y, x, w, u, v, s, changed, kept_w, z_found, y_found, x_found, w_found, none_new, own_none, ports, found_first, found_second}
+use Rattle.aol_fusion_rules.proofs.Sound.{IsFusing, names_of_fusion, with_w, z, y, x, w, u, v, s, changed, kept_w, z_found, y_found, x_found, w_found, none_new, own_none, ports}
 use Rattle.aol_fusion.specs.Map.{origins_from}
-use Rattle.aol_fusion.proofs.Counts.{AreThere}
+use Rattle.aol_fusion.specs.Closed.{AreThere}
 
 -- ---- origins
 

@@ -1,6 +1,5 @@
 -- The numbers of the old leaves are the map of the fusion.
-use Rattle.std.proofs.Common.{◌≡◌, ℕ, zero, suc, ◌+◌, ◌-◌, ◌<◌, ◌≤◌, Bool, true, false, cond, ◌==◌, List, [], ◌∷◌, ◌++◌, length, take, drop, map, flat_map, Option, Some, None, option_map, option_and_then, unwrap_or, slice_get, sym, ◌∙◌, ap, refl, arith, subst, append_assoc, ◌⊎◌, inl, inr}
-use Rattle.std.specs.Prelude.{slice_index}
+use Rattle.std.proofs.Common.{◌≡◌, ℕ, zero, suc, ◌+◌, ◌<◌, Bool, true, false, cond, List, [], ◌∷◌, ◌++◌, length, take, drop, flat_map, Some, option_map, unwrap_or, slice_get, sym, ◌∙◌, ap, refl, arith, subst, append_assoc, ◌⊎◌, inl, inr}
 use Rattle.std.specs.List.{IsAmong}
 use Rattle.std.proofs.lemmas.List.{append-nil, length-append, length-map}
 use Rattle.std.proofs.lemmas.Option.{none-some, get_or_from_slice_get, slice_get-map}
@@ -12,35 +11,34 @@ use Rattle.aol_model_types.specs.declared.task.Copied.{Copied}
 use Rattle.aol_model_types.specs.declared.task.Elementary.{Elementary}
 use Rattle.aol_model_types.specs.declared.task.Task.{Task}
 use Rattle.aol_model_types.specs.declared.task.Task.TheVariants as tasks
-use Rattle.aol_model_types.specs.Rules.{task_name, task_named}
-use Rattle.aol_flat.specs.Accept.{IsSound}
-use Rattle.aol_flat.specs.Instance.{Leaf, Work, Computes, Copies, Instance, Run, Copy, leaves, leaves_below, leaf_instances, instances, reshape_leaf, instance_on}
-use Rattle.aol_flat.specs.Keep.{runs_task, SameKind, AreAlike}
+use Rattle.aol_model_types.specs.Rules.{task_name}
+use Rattle.aol_flat.specs.Instance.{Leaf, Computes, Copies, Instance, Run, Copy, leaves, leaves_below, leaf_instances, instances, reshape_leaf, instance_on}
+use Rattle.aol_flat.specs.Keep.{runs_task, AreAlike}
 use Rattle.aol_flat.specs.LeafCursor.{first_on}
 use Rattle.aol_flat.specs.Node.{Node, space_around, place_on, node_task}
 use Rattle.aol_flat.specs.Place.{Place}
 use Rattle.aol_flat.proofs.Among.{among_map, among_flat_map, get_among, points_inside}
 use Rattle.aol_flat.proofs.LeafAt.{instance_at}
-use Rattle.aol_flat.proofs.LeafForm.{LeafForm, IsCopyForm, IsRunForm}
-use Rattle.aol_flat.proofs.Names.{same-self, same-equal, slice_get-left, slice_get-right}
+use Rattle.aol_flat.proofs.LeafForm.{IsCopyForm, IsRunForm}
+use Rattle.aol_flat.proofs.Names.{same-self, slice_get-right}
 use Rattle.aol_flat.proofs.NodeTasks.{HasSpaces, task_on}
 use Rattle.aol_change.specs.Change.{is_named, name_at, old_place, IsMapOf, KeepsTasks}
 use Rattle.aol_change.specs.Unblocked.{entries_before}
 use Rattle.aol_change.proofs.Below.{node_named, listed_form, listed_at}
 use Rattle.aol_change.proofs.EqualParts.{numbers_get, numbers_many}
 use Rattle.aol_fusion_parts.specs.Changed.{first_goes, changed_from, changed_to, changed_reshape, copied_to}
-use Rattle.aol_fusion_parts.specs.Fuse.{Fusing, fused_ports}
+use Rattle.aol_fusion_parts.specs.Fuse.{Fusing}
 use Rattle.aol_fusion_parts.specs.Made.{fused_names}
 use Rattle.aol_fusion_parts.specs.Ports.{unjoined_ports}
 use Rattle.aol_fusion_rules.proofs.Sound.{IsFusing}
 use Rattle.aol_paving.proofs.NewLeaves.{Enough}
 use Rattle.aol_fusion.specs.Map.{origins_from, old_reshape, unfuse, unfuse_reshape, fuse_origin}
 use Rattle.aol_fusion.specs.Numbers.{leaves_of, first_leaf, copy_leaves, old_leaf, numbers_in_leaf, numbers_of_leaf, fused_numbers}
-use Rattle.aol_fusion.proofs.Comes.{HasLeaves, now, whole_enough, old_order, now_other, low_apart, is_compound, name_there}
-use Rattle.aol_fusion.proofs.Counts.{leaf_of_reshape}
+use Rattle.aol_fusion.proofs.Comes.{now, whole_enough, old_order, low_apart, is_compound, name_there}
+use Rattle.aol_fusion.proofs.ManyLeaves.{leaf_of_reshape}
 use Rattle.aol_fusion.proofs.LeafComes.{computes_elementary, at_work, ArePair, LeafFrom, same_leaf, block_leaf}
 use Rattle.aol_fusion.proofs.Lookups.{next, origin, before_or_after, in_front, inner_there, changed_task, changed_of, whole_task, block_task, once_task, pair_task, pair_of}
-use Rattle.aol_fusion.proofs.NodeComes.{OldAt, AsOld, InBlock, AtWhole, Comes, as_old, in_block, at_whole, at_pair, at_first, at_second}
+use Rattle.aol_fusion.proofs.NodeComes.{OldAt, AsOld, InBlock, Comes, as_old, in_block, at_whole, at_pair, at_first, at_second}
 use Rattle.aol_fusion.proofs.NodeSteps.{comes}
 
 module _ (f : Fusing) (h : IsFusing f) where

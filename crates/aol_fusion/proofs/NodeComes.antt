@@ -1,9 +1,6 @@
 -- Each node of the fused model comes from an old one, or is one of those between the compound and its two parts.
-use Rattle.std.proofs.Common.{◌≡◌, ℕ, zero, suc, ◌+◌, ◌<◌, Bool, true, false, cond, not, ◌&&◌, ◌==◌, List, [], ◌∷◌, ◌++◌, length, take, map, codes, Option, Some, None, option_map, option_and_then, slice_get, slice_index, sym, ◌∙◌, ap, refl, arith, subst, append_assoc, ◌⊎◌, inl, inr}
+use Rattle.std.proofs.Common.{◌≡◌, ℕ, ◌+◌, false, cond, ◌==◌, List, [], ◌∷◌, ◌++◌, length, take, Some, None, option_and_then, slice_get, sym, ◌∙◌, ap, refl, arith, subst, append_assoc}
 use Rattle.std.specs.List.{IsAmong}
-use Rattle.std.proofs.lemmas.Bool.{eqb-true, eq-eqb}
-use Rattle.std.proofs.lemmas.List.{append-nil, length-append}
-use Rattle.std.proofs.lemmas.Option.{none-some, get_or_from_slice_get}
 use Rattle.aol_shape.specs.Lists.{same}
 use Rattle.aol_shape.specs.Shape.{IsPointOf}
 use Rattle.aol_tiler.specs.Tiler.{address_point}
@@ -13,35 +10,27 @@ use Rattle.aol_model_types.specs.declared.task.Part.{Part}
 use Rattle.aol_model_types.specs.declared.task.Repeated.{Repeated}
 use Rattle.aol_model_types.specs.declared.task.Task.{Task}
 use Rattle.aol_model_types.specs.declared.task.Task.TheVariants as tasks
-use Rattle.aol_model_types.specs.Rules.{task_name, task_named, part_named}
+use Rattle.aol_model_types.specs.Rules.{task_name, task_named}
 use Rattle.aol_flat.specs.Instance.{leaves_below}
-use Rattle.aol_flat.specs.Node.{Branch, ToPart, ToBody, Node, space_around, place_on, task_under, node_task}
+use Rattle.aol_flat.specs.Node.{ToPart, ToBody, Node, space_around, place_on, task_under, node_task}
 use Rattle.aol_flat.specs.Numbered.{inner_names}
-use Rattle.aol_flat.specs.Place.{Place, Down, IntoPart, IntoRepetition}
+use Rattle.aol_flat.specs.Place.{Place, IntoPart, IntoRepetition}
 use Rattle.aol_flat.specs.Tasks.{main_task, part_number}
 use Rattle.aol_flat.proofs.Among.{map_among, get_among}
-use Rattle.aol_flat.proofs.Find.{and_then_some}
 use Rattle.aol_flat.proofs.Inside.{point_split, point_both, place_in_body}
-use Rattle.aol_flat.proofs.LinkRules.{part_at}
-use Rattle.aol_flat.proofs.Names.{same-self, same-equal}
 use Rattle.aol_flat.proofs.NodeTasks.{HasSpaces}
-use Rattle.aol_flat.proofs.Once.{there}
-use Rattle.aol_flat.proofs.Sites.{find-passes}
 use Rattle.aol_change.specs.Change.{is_named, name_at, old_place}
 use Rattle.aol_change.specs.Unblocked.{entries_before}
-use Rattle.aol_change.proofs.Below.{own_name, node_named, before_named, before_other}
-use Rattle.aol_change.proofs.KeptTasks.{main_there}
-use Rattle.aol_fusion_parts.specs.Changed.{first_goes, changed_part}
+use Rattle.aol_change.proofs.Below.{own_name, node_named, before_other}
 use Rattle.aol_fusion_parts.specs.Fuse.{Fusing}
-use Rattle.aol_fusion_parts.specs.Joined.{task_of_part}
 use Rattle.aol_fusion_parts.specs.Made.{fused_names}
 use Rattle.aol_fusion_rules.proofs.NewNumbers.{other_name}
 use Rattle.aol_fusion_rules.proofs.Sound.{IsFusing}
 use Rattle.aol_paving.proofs.NewLeaves.{Enough}
-use Rattle.aol_fusion.specs.Map.{old_part, unfuse, unfuse_block, unfuse_once}
+use Rattle.aol_fusion.specs.Map.{old_part, unfuse}
 use Rattle.aol_fusion.specs.Numbers.{leaves_of, before_part, part_leaves, first_leaf}
-use Rattle.aol_fusion.proofs.Comes.{HasLeaves, whole_enough, part_leaf, body_leaf, now, compound_number, low_apart, lower, under_compound, is_compound, now_other, now_is, name_there, part_kept, body_kept}
-use Rattle.aol_fusion.proofs.Lookups.{IsOldName, old_name_of, inner_there, next, origin, own_number, before, place, holds, changed_task, block_task, once_task, pair_task, whole_task, block_found, once_found, pair_found, whole_found, first_inner, second_inner}
+use Rattle.aol_fusion.proofs.Comes.{HasLeaves, whole_enough, part_leaf, body_leaf, now, compound_number, low_apart, lower, now_other, now_is, name_there, part_kept, body_kept}
+use Rattle.aol_fusion.proofs.Lookups.{IsOldName, old_name_of, next, block_task, once_task, pair_task, whole_task}
 
 module _ (f : Fusing) (h : IsFusing f) where
   abbrev m : Model

@@ -1,9 +1,9 @@
 -- The steps from the changed compound down to its two parts, and so all nodes of the fused model.
-use Rattle.std.proofs.Common.{◌≡◌, ℕ, zero, suc, ◌+◌, ◌<◌, Bool, true, false, cond, not, ◌&&◌, ◌||◌, ◌==◌, List, [], ◌∷◌, ◌++◌, length, take, map, flat_map, Option, Some, None, option_map, option_and_then, slice_get, slice_index, sym, ◌∙◌, ap, refl, arith, subst, append_assoc, ◌⊎◌, inl, inr}
+use Rattle.std.proofs.Common.{◌≡◌, ℕ, zero, suc, ◌+◌, Bool, true, false, cond, ◌&&◌, ◌||◌, ◌==◌, List, [], ◌∷◌, ◌++◌, length, take, flat_map, Some, None, option_and_then, slice_get, sym, ◌∙◌, ap, refl, arith, subst, append_assoc, ◌⊎◌, inl, inr}
 use Rattle.std.specs.List.{IsAmong}
 use Rattle.std.proofs.lemmas.Bool.{eqb-true, eq-eqb}
-use Rattle.std.proofs.lemmas.List.{append-nil, length-append}
-use Rattle.std.proofs.lemmas.Option.{none-some, get_or_from_slice_get}
+use Rattle.std.proofs.lemmas.List.{append-nil}
+use Rattle.std.proofs.lemmas.Option.{get_or_from_slice_get}
 use Rattle.aol_shape.specs.Lists.{same}
 use Rattle.aol_shape.specs.Shape.{IsPointOf, IsShape}
 use Rattle.aol_tiler.specs.Tiler.{address_point, fits}
@@ -14,10 +14,8 @@ use Rattle.aol_model_types.specs.declared.task.Repeated.{Repeated}
 use Rattle.aol_model_types.specs.declared.task.Task.{Task}
 use Rattle.aol_model_types.specs.declared.task.Task.TheVariants as tasks
 use Rattle.aol_model_types.specs.Rules.{task_name, task_named, part_named}
-use Rattle.aol_flat.specs.Instance.{leaves_below}
 use Rattle.aol_flat.specs.Node.{Branch, ToPart, ToBody, Node, space_around, place_on, task_under, node_task}
-use Rattle.aol_flat.specs.Numbered.{inner_names}
-use Rattle.aol_flat.specs.Place.{Place, Down, IntoPart, IntoRepetition}
+use Rattle.aol_flat.specs.Place.{Place, IntoPart, IntoRepetition}
 use Rattle.aol_flat.specs.Tasks.{main_task, part_number}
 use Rattle.aol_flat.proofs.Among.{map_among, get_among}
 use Rattle.aol_flat.proofs.Find.{and_then_some, found_name}
@@ -44,9 +42,9 @@ use Rattle.aol_fusion_parts.proofs.Placing.{tiler_fits_spaces, task_within}
 use Rattle.aol_paving.proofs.NewLeaves.{Enough}
 use Rattle.aol_fusion.specs.Map.{origins_from, old_part, unfuse, unfuse_block, unfuse_once}
 use Rattle.aol_fusion.specs.Numbers.{leaves_of, before_part, part_leaves, first_leaf}
-use Rattle.aol_fusion.proofs.Comes.{HasLeaves, whole_enough, part_leaf, body_leaf, now, compound_number, low_apart, lower, under_compound, is_compound, now_other, now_is, name_there, part_kept, body_kept}
+use Rattle.aol_fusion.proofs.Comes.{part_leaf, body_leaf, now, compound_number, low_apart, lower, under_compound, is_compound, now_other, now_is, name_there, part_kept, body_kept}
 use Rattle.aol_fusion.proofs.Lookups.{IsOldName, old_name_of, inner_there, next, origin, own_number, before, rest, place, split, holds, whole_of, pair_of, block_of, once_of, changed_of, changed_task, block_task, once_task, pair_task, whole_task, block_found, once_found, pair_found, whole_found, first_inner, second_inner}
-use Rattle.aol_fusion.proofs.NodeComes.{OldAt, AsOld, InBlock, AtWhole, Comes, as_old, in_block, at_whole, at_pair, at_first, at_second, root, old_of, under_part, as_old_part, in_block_part, as_old_body, in_block_body}
+use Rattle.aol_fusion.proofs.NodeComes.{AsOld, InBlock, AtWhole, Comes, as_old, in_block, at_whole, at_pair, at_first, at_second, root, under_part, as_old_part, in_block_part, as_old_body, in_block_body}
 
 -- what stands in the place of a part, by the part
 part_cases : (args : _) (whole : List ℕ) (goes : Bool) (x y : Part) → IsAmong (changed_part args whole goes x) y

@@ -1,14 +1,13 @@
 -- The map of a fusion: the old instance of each instance of the fused model.
-use Rattle.std.specs.Prelude.{ℕ, ◌+◌, List, [], ◌∷◌, ◌++◌, map, slice_index, Option, Some, None, if◌then◌else◌}
+use Rattle.std.specs.Prelude.{ℕ, ◌+◌, List, [], ◌∷◌, ◌++◌, map, slice_index, Option, Some, if◌then◌else◌}
 use Rattle.aol_tiler.specs.Tiler.{address_point}
 use Rattle.aol_model_types.specs.declared.document.Model.{Model}
 use Rattle.aol_model_types.specs.declared.job.FuseArgs.{FuseArgs}
 use Rattle.aol_model_types.specs.declared.task.Compound.{Compound}
-use Rattle.aol_model_types.specs.declared.task.Repeated.{Repeated}
 use Rattle.aol_model_types.specs.declared.task.Task.{Task}
 use Rattle.aol_model_types.specs.declared.task.Task.TheVariants as tasks
 use Rattle.aol_flat.specs.Instance.{Instance}
-use Rattle.aol_flat.specs.Place.{Place, Down, IntoPart, IntoRepetition}
+use Rattle.aol_flat.specs.Place.{Place, IntoPart, IntoRepetition}
 use Rattle.aol_flat.specs.Tasks.{part_number}
 use Rattle.aol_change.specs.Change.{StepBack, is_named, old_instance}
 use Rattle.aol_fusion_parts.specs.Changed.{first_goes, changed_part, changed_reshape}

@@ -1,5 +1,5 @@
 -- The old numbers of the instances of a fused model, leaf by leaf.
-use Rattle.std.specs.Prelude.{ℕ, ◌+◌, ◌-◌, ◌*◌, ◌==◌, List, [], ◌∷◌, ◌++◌, map, flat_map, take, drop, length, slice_get, Option, Some, None, unwrap_or, option_map, if◌then◌else◌}
+use Rattle.std.specs.Prelude.{ℕ, ◌+◌, ◌-◌, ◌*◌, ◌==◌, List, [], ◌∷◌, flat_map, take, drop, length, slice_get, Option, Some, None, unwrap_or, option_map, if◌then◌else◌}
 use Rattle.aol_shape.specs.Lists.{same, numbers_from, numbers_below}
 use Rattle.aol_shape.specs.Shape.{size, rank, point_at}
 use Rattle.aol_tiler.specs.Tiler.{address_point}

@@ -9,8 +9,10 @@
 //! ```
 #![tactic(auto)]
 
+mod laws;
 mod model;
 mod step;
 
+pub use laws::old_numbers_are_told;
 pub use model::fused_model;
 pub use step::fused_flat;

@@ -606,47 +606,62 @@ module _ (f : Fusing) (h : IsFusing f) (count : list_all is_countable (fused_mod
   pub fusion_sound : IsSound (fused_model f)
   fusion_sound = model_sound f h counted_after.0 counted_after.1
 
-pub fused_is_sound : FusedIsSound
-fused_is_sound m next name args sound block picks few count h = go (task_named m.tasks name) refl h
+-- the fusion that a model was made by
+pub record MadeBy (m : Model) (name : List ℕ) (args : FuseArgs) (next : Model) : Type 0 where
+  pub compound : Compound
+  pub one : Repeated
+  pub two : Repeated
+  pub found : task_named m.tasks name ≡ Some (tasks.Compound compound)
+  pub known : IsFusing (fusing m compound one two args)
+  pub made : fused_model (fusing m compound one two args) ≡ next
+
+pub made_by : (m next : Model) (name : List ℕ) (args : FuseArgs) → IsSound m → IsShape args.block → AllByRecursion IsPick args.picks → length m.tasks + 4 < 2 ^ 32 → fused_task m (task_named m.tasks name) args ≡ Changed next → MadeBy m name args next
+made_by m next name args sound block picks few h = go (task_named m.tasks name) refl h
   where
     -- a fusion within the limits
     by_limit : (c : Compound) (one two : Repeated) → task_named m.tasks name ≡ Some (tasks.Compound c) → are_joined c args ≡ true → task_of_part m.tasks c args.first ≡ Some (tasks.Repeated one) → task_of_part m.tasks c args.second ≡ Some (tasks.Repeated two)
         → has_links one ≡ false → has_links two ≡ false → is_formed (fusing m c one two args) ≡ true → (o : Option LimitName) → fuse_limit (fusing m c one two args) ≡ o
-        → within_limits (fused_model (fusing m c one two args)) o ≡ Changed next → IsSound next
+        → within_limits (fused_model (fusing m c one two args)) o ≡ Changed next → MadeBy m name args next
     by_limit c one two e j f g a b formed (Some l) limit k = cc
     by_limit c one two e j f g a b formed None limit k =
         let is : fused_model (fusing m c one two args) ≡ next = cc in
-        subst IsSound is
-        (fusion_sound (fusing m c one two args)
-        (record {
-          sound = sound;
-          compound = found_name m name (tasks.Compound c) e;
-          joined = j;
-          one = f;
-          two = g;
-          one_plain = no_links one a;
-          two_plain = no_links two b;
-          formed = formed;
-          limit = limit;
-          block = block;
-          picks = picks;
-          few = few;
-        }) (ap (λ (x : Model). list_all is_countable x.tasks) is ∙ count))
+        record {
+          compound = c;
+          one = one;
+          two = two;
+          found = e;
+          made = is;
+          known =
+              record {
+                sound = sound;
+                compound = found_name m name (tasks.Compound c) e;
+                joined = j;
+                one = f;
+                two = g;
+                one_plain = no_links one a;
+                two_plain = no_links two b;
+                formed = formed;
+                limit = limit;
+                block = block;
+                picks = picks;
+                few = few;
+              };
+        }
 
     by_form : (c : Compound) (one two : Repeated) → task_named m.tasks name ≡ Some (tasks.Compound c) → are_joined c args ≡ true → task_of_part m.tasks c args.first ≡ Some (tasks.Repeated one) → task_of_part m.tasks c args.second ≡ Some (tasks.Repeated two)
         → has_links one ≡ false → has_links two ≡ false → (b : Bool) → is_formed (fusing m c one two args) ≡ b
-        → (if b then within_limits (fused_model (fusing m c one two args)) (fuse_limit (fusing m c one two args)) else Refused NotJoined) ≡ Changed next → IsSound next
+        → (if b then within_limits (fused_model (fusing m c one two args)) (fuse_limit (fusing m c one two args)) else Refused NotJoined) ≡ Changed next → MadeBy m name args next
     by_form c one two e j f g a d true formed k = by_limit c one two e j f g a d formed (fuse_limit (fusing m c one two args)) refl k
     by_form c one two e j f g a d false formed k = cc
 
     by_links : (c : Compound) (one two : Repeated) → task_named m.tasks name ≡ Some (tasks.Compound c) → are_joined c args ≡ true → task_of_part m.tasks c args.first ≡ Some (tasks.Repeated one) → task_of_part m.tasks c args.second ≡ Some (tasks.Repeated two)
         → (b : Bool) → (has_links one || has_links two) ≡ b
-        → (if b then Refused HasLinks else (if is_formed (fusing m c one two args) then within_limits (fused_model (fusing m c one two args)) (fuse_limit (fusing m c one two args)) else Refused NotJoined)) ≡ Changed next → IsSound next
+        → (if b then Refused HasLinks else (if is_formed (fusing m c one two args) then within_limits (fused_model (fusing m c one two args)) (fuse_limit (fusing m c one two args)) else Refused NotJoined)) ≡ Changed next → MadeBy m name args next
     by_links c one two e j f g true l k = cc
     by_links c one two e j f g false l k = let none = neither_of (has_links one) (has_links two) l in by_form c one two e j f g none.0 none.1 (is_formed (fusing m c one two args)) refl k
 
     by_parts : (c : Compound) → task_named m.tasks name ≡ Some (tasks.Compound c) → are_joined c args ≡ true → (one two : Option Task) → task_of_part m.tasks c args.first ≡ one → task_of_part m.tasks c args.second ≡ two
-        → fused_parts m c args one two ≡ Changed next → IsSound next
+        → fused_parts m c args one two ≡ Changed next → MadeBy m name args next
     by_parts c e j (Some (tasks.Repeated one)) (Some (tasks.Repeated two)) f g k = by_links c one two e j f g (has_links one || has_links two) refl k
     by_parts c e j (Some (tasks.Repeated one)) (Some (tasks.Elementary x)) f g k = cc
     by_parts c e j (Some (tasks.Repeated one)) (Some (tasks.Compound x)) f g k = cc
@@ -656,12 +671,17 @@ fused_is_sound m next name args sound block picks few count h = go (task_named m
     by_parts c e j None two f g k = cc
 
     by_joint : (c : Compound) → task_named m.tasks name ≡ Some (tasks.Compound c) → (b : Bool) → are_joined c args ≡ b
-        → (if b then fused_parts m c args (task_of_part m.tasks c args.first) (task_of_part m.tasks c args.second) else Refused NotJoined) ≡ Changed next → IsSound next
+        → (if b then fused_parts m c args (task_of_part m.tasks c args.first) (task_of_part m.tasks c args.second) else Refused NotJoined) ≡ Changed next → MadeBy m name args next
     by_joint c e true j k = by_parts c e j (task_of_part m.tasks c args.first) (task_of_part m.tasks c args.second) refl refl k
     by_joint c e false j k = cc
 
-    go : (o : Option Task) → task_named m.tasks name ≡ o → fused_task m o args ≡ Changed next → IsSound next
+    go : (o : Option Task) → task_named m.tasks name ≡ o → fused_task m o args ≡ Changed next → MadeBy m name args next
     go None e k = cc
     go (Some (tasks.Elementary x)) e k = cc
     go (Some (tasks.Repeated t)) e k = cc
     go (Some (tasks.Compound c)) e k = by_joint c e (are_joined c args) refl k
+
+pub fused_is_sound : FusedIsSound
+fused_is_sound m next name args sound block picks few count h =
+    let by = made_by m next name args sound block picks few h in
+    subst IsSound by.made (fusion_sound (fusing m by.compound by.one by.two args) by.known (ap (λ (x : Model). list_all is_countable x.tasks) by.made ∙ count))

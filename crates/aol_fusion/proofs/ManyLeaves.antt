@@ -1,12 +1,14 @@
 -- How many leaves there are below a task, and where those of a part stand.
-use Rattle.std.proofs.Common.{◌≡◌, ℕ, zero, suc, ◌+◌, ◌<◌, ◌≤◌, List, [], ◌∷◌, ◌++◌, length, take, map, flat_map, Option, Some, None, option_map, slice_get, sym, ◌∙◌, ap, refl, arith, subst}
+use Rattle.std.proofs.Common.{◌≡◌, ℕ, zero, suc, ◌+◌, ◌<◌, List, [], ◌∷◌, ◌++◌, length, take, map, flat_map, Some, option_map, slice_get, sym, ◌∙◌, ap, refl, arith}
 use Rattle.std.specs.List.{IsAmong, enumerate_from}
 use Rattle.std.proofs.lemmas.List.{length-append}
 use Rattle.std.proofs.lemmas.Option.{none-some, slice_get-map}
 use Rattle.aol_model_types.specs.declared.document.Model.{Model}
 use Rattle.aol_model_types.specs.declared.task.Compound.{Compound}
 use Rattle.aol_model_types.specs.declared.task.Copied.{Copied}
+use Rattle.aol_model_types.specs.declared.task.Elementary.{Elementary}
 use Rattle.aol_model_types.specs.declared.task.Part.{Part}
+use Rattle.aol_model_types.specs.declared.task.Repeated.{Repeated}
 use Rattle.aol_model_types.specs.declared.task.Task.{Task}
 use Rattle.aol_model_types.specs.declared.task.Task.TheVariants as tasks
 use Rattle.aol_model_types.specs.Rules.{task_named}
@@ -16,6 +18,7 @@ use Rattle.aol_flat.specs.Numbered.{inner_names, StandOnEarlier}
 use Rattle.aol_flat.proofs.Among.{map_among}
 use Rattle.aol_flat.proofs.Names.{slice_get-left, slice_get-right}
 use Rattle.aol_paving.proofs.NewLeaves.{Enough, enough_below}
+use Rattle.aol_fusion.specs.Closed.{AreThere}
 use Rattle.aol_fusion.specs.Numbers.{leaves_in, leaves_of}
 
 -- ---- lists
@@ -25,10 +28,6 @@ pub enumerated_at : {X : Type 0} (from k : ℕ) (xs : List X) (x : X) → slice_
 enumerated_at from k [] x h = absurd (none-some x h)
 enumerated_at from zero (y ∷ xs) x h = let e : y ≡ x = cc in let n : from ≡ from + 0 = omega arith in ap (λ (z : _). Some (from, z)) e ∙ ap (λ j. Some (j, x)) n
 enumerated_at from (suc k) (y ∷ xs) x h = let n : from + 1 + k ≡ from + suc k = omega arith in enumerated_at (from + 1) k xs x h ∙ ap (λ j. Some (j, x)) n
-
--- every task that the others are made of is there
-abbrev pub AreThere : Model → Type 0
-AreThere m = (n inner : List ℕ) (u : Task) → task_named m.tasks n ≡ Some u → IsAmong (inner_names u) inner → (v : Task) × (task_named m.tasks inner ≡ Some v)
 
 module _ (m : Model) (order : StandOnEarlier m.tasks) (all : AreThere m) where
   abbrev below : ℕ → List ℕ → Node → List Leaf
@@ -147,3 +146,31 @@ module _ (m : Model) (order : StandOnEarlier m.tasks) (all : AreThere m) where
         ap (slice_get (front ++ map (reshape_leaf node) (enumerate_from 0 c.reshapes))) z
         ∙ (slice_get-right front (map (reshape_leaf node) (enumerate_from 0 c.reshapes)) k
         ∙ (slice_get-map (reshape_leaf node) (enumerate_from 0 c.reshapes) k ∙ (ap (option_map (reshape_leaf node)) (enumerated_at 0 k c.reshapes r at) ∙ ap (λ j. Some (reshape_leaf node (j, r))) e')))
+
+  -- ---- the number of leaves of a task, by its kind
+
+  in_whole : (n : List ℕ) (t : Task) → task_named m.tasks n ≡ Some t → ((inner : List ℕ) (v : Task) → task_named m.tasks inner ≡ Some v → Enough m.tasks inner (length m.tasks)) → (d : ℕ) × Enough m.tasks n (suc d)
+  in_whole n t h whole = let e = whole n t h in (e.number, record { number = e.number; named = e.named; under = omega arith })
+
+  pub leaves_in_run : (n : List ℕ) (x : Elementary) → task_named m.tasks n ≡ Some (tasks.Elementary x) → ((inner : List ℕ) (v : Task) → task_named m.tasks inner ≡ Some v → Enough m.tasks inner (length m.tasks)) → leaves_in m n ≡ 1
+  leaves_in_run n x h whole =
+      let d = in_whole n (tasks.Elementary x) h whole in
+      sym (many_leaves (suc d.0) n [] (tasks.Elementary x) h d.1 (whole n (tasks.Elementary x) h)) ∙ ap (λ o. length (leaves_below (suc d.0) m o [])) h
+
+  pub leaves_in_body : (n : List ℕ) (t : Repeated) → task_named m.tasks n ≡ Some (tasks.Repeated t) → ((inner : List ℕ) (v : Task) → task_named m.tasks inner ≡ Some v → Enough m.tasks inner (length m.tasks)) → leaves_in m n ≡ leaves_in m t.task
+  leaves_in_body n t h whole =
+      let d = in_whole n (tasks.Repeated t) h whole in
+      let among : IsAmong (inner_names (tasks.Repeated t)) t.task = (0, (omega arith, refl)) in
+      let v = all n t.task (tasks.Repeated t) h among in
+      sym (many_leaves (suc d.0) n [] (tasks.Repeated t) h d.1 (whole n (tasks.Repeated t) h))
+      ∙ (ap (λ o. length (leaves_below (suc d.0) m o [])) h
+      ∙ many_leaves d.0 t.task (ToBody t.space ∷ []) v.0 v.1 (enough_below m.tasks n t.task (tasks.Repeated t) v.0 d.0 order h among v.1 d.1) (whole t.task v.0 v.1))
+
+  pub leaves_in_parts : (n : List ℕ) (c : Compound) → task_named m.tasks n ≡ Some (tasks.Compound c) → ((inner : List ℕ) (v : Task) → task_named m.tasks inner ≡ Some v → Enough m.tasks inner (length m.tasks))
+      → leaves_in m n ≡ leaves_of m c.parts + length c.reshapes
+  leaves_in_parts n c h whole =
+      let d = in_whole n (tasks.Compound c) h whole in
+      let front : List Leaf = flat_map (λ (q : ℕ × Part). below d.0 q.1.task (ToPart q.0 ∷ [])) (enumerate_from 0 c.parts) in
+      let parts : length front ≡ leaves_of m c.parts = all_parts d.0 0 [] c.parts (many_part d.0 n [] c h d.1 whole) in
+      let sum : length (front ++ map (reshape_leaf []) (enumerate_from 0 c.reshapes)) ≡ leaves_of m c.parts + length c.reshapes = omega (arith, parts, many_reshapes [] 0 c.reshapes, length-append front (map (reshape_leaf []) (enumerate_from 0 c.reshapes))) in
+      sym (many_leaves (suc d.0) n [] (tasks.Compound c) h d.1 (whole n (tasks.Compound c) h)) ∙ (ap (λ o. length (leaves_below (suc d.0) m o [])) h ∙ sum)

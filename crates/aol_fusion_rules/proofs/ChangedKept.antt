@@ -1,5 +1,5 @@
 -- The compound of two fused parts keeps the rules.
-use Rattle.std.proofs.Common.{◌≡◌, ℕ, ◌+◌, ◌<◌, ◌^◌, Bool, true, false, cond, not, ◌&&◌, ◌||◌, List, [], ◌∷◌, ◌++◌, length, map, flat_map, Option, Some, None, is_some, is_none, option_map, unwrap_or, zero, suc, sym, ◌∙◌, ap, refl, arith, subst, ◌⊎◌, inl, inr}
+use Rattle.std.proofs.Common.{◌≡◌, ℕ, Bool, true, false, cond, not, ◌&&◌, ◌||◌, List, [], ◌∷◌, ◌++◌, length, map, flat_map, Option, Some, None, is_some, is_none, option_map, unwrap_or, zero, suc, sym, ◌∙◌, ap, refl, arith, subst, ◌⊎◌, inl, inr}
 use Rattle.std.specs.List.{IsAmong, list_all, list_any}
 use Rattle.std.proofs.lemmas.List.{append-nil}
 use Rattle.aol_shape.specs.Lists.{same}
@@ -16,12 +16,12 @@ use Rattle.aol_model_types.specs.declared.task.Repeated.{Repeated}
 use Rattle.aol_model_types.specs.declared.task.Task.{Task}
 use Rattle.aol_model_types.specs.declared.task.Task.TheVariants as tasks
 use Rattle.aol_model_types.specs.Places.{to_key}
-use Rattle.aol_model_types.specs.Rules.{each, task_named, inputs_of, inputs_named, port_shape, same_part, same_hook, same_shapes, fits_in, from_shape, to_shape, is_fed, part_is_fed, output_is_fed, is_new_part, is_earlier_task, part_checks, plain_checks, copied_checks, port_checks, gives, takes, meets_part, joins_equal, hands_up, hands_up_once, source_fits, target_fits}
+use Rattle.aol_model_types.specs.Rules.{each, task_named, inputs_of, inputs_named, port_shape, same_part, same_hook, fits_in, from_shape, to_shape, is_fed, part_is_fed, output_is_fed, is_new_part, is_earlier_task, part_checks, plain_checks, copied_checks, port_checks, gives, takes, meets_part, joins_equal, hands_up, hands_up_once, source_fits, target_fits}
 use Rattle.aol_flat.proofs.Among.{among_append}
 use Rattle.aol_flat.proofs.Checked.{HoldsOfCompound, member, fed_checks, output_fed_checks}
 use Rattle.aol_flat.proofs.Different.{Hold}
 use Rattle.aol_flat.proofs.Inside.{among_left}
-use Rattle.aol_flat.proofs.Names.{both-true, same-self, same-equal}
+use Rattle.aol_flat.proofs.Names.{both-true, same-equal}
 use Rattle.aol_flat.proofs.Once.{all_at, there}
 use Rattle.aol_flat.proofs.Truth.{both}
 use Rattle.aol_change.proofs.Checks.{each-moved}
@@ -34,8 +34,8 @@ use Rattle.aol_fusion_laws.proofs.Fresh.{AreFresh, names_of, fresh_own, fewer_fr
 use Rattle.aol_fusion_laws.proofs.Renamed.{renamed_both, renamed_member}
 use Rattle.aol_fusion_laws.proofs.SameNames.{filter_among}
 use Rattle.aol_fusion_laws.proofs.Wired.{among_split, split_at, any_map}
-use Rattle.aol_fusion_laws.proofs.NewPair.{LinkFits, link_holds}
-use Rattle.aol_fusion_rules.proofs.Ends.{IsFusion, PutPart, put_part, new, unjoined, goes, end_is, output_shape, from_kept, to_first, to_second, to_moved}
+use Rattle.aol_fusion_laws.proofs.NewPair.{link_holds}
+use Rattle.aol_fusion_rules.proofs.Ends.{IsFusion, put_part, new, unjoined, goes, end_is, output_shape, from_kept, to_first, to_second, to_moved}
 use Rattle.aol_fusion_rules.proofs.Feeds.{part_fed, link_shapes, reshape_shapes, IsValid, link_valid, reshape_valid, IsTarget, fed_so, kept_target, first_target, second_target}
 use Rattle.aol_fusion_rules.proofs.Flat.{only_one, not_one, any_flat, each_flat}
 use Rattle.aol_fusion_rules.proofs.NewNumbers.{same_among, other_name}

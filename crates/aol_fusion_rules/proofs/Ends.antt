@@ -1,5 +1,5 @@
 -- The ends of links in a compound whose parts are fused.
-use Rattle.std.proofs.Common.{◌≡◌, ℕ, ◌+◌, ◌<◌, ◌^◌, Bool, true, false, cond, not, ◌&&◌, ◌||◌, List, [], ◌∷◌, ◌++◌, length, find, flat_map, Option, Some, None, is_some, option_map, option_and_then, unwrap_or, sym, ◌∙◌, ap, refl, arith, subst, ◌⊎◌, inl, inr}
+use Rattle.std.proofs.Common.{◌≡◌, ℕ, ◌+◌, ◌<◌, ◌^◌, Bool, true, false, cond, ◌&&◌, List, [], ◌∷◌, ◌++◌, length, find, flat_map, Option, Some, None, option_map, option_and_then, unwrap_or, sym, ◌∙◌, ap, refl, arith, subst, ◌⊎◌, inl, inr}
 use Rattle.std.specs.List.{IsAmong}
 use Rattle.aol_shape.specs.Lists.{same}
 use Rattle.aol_expr_tree.specs.declared.port.Port.{Port}
@@ -10,10 +10,9 @@ use Rattle.aol_model_types.specs.declared.task.Part.{Part}
 use Rattle.aol_model_types.specs.declared.task.Repeated.{Repeated}
 use Rattle.aol_model_types.specs.declared.task.Task.{Task}
 use Rattle.aol_model_types.specs.declared.task.Task.TheVariants as tasks
-use Rattle.aol_model_types.specs.Rules.{task_named, inputs_of, outputs_of, inputs_named, outputs_named, port_shape, part_named, same_part, from_shape, to_shape}
+use Rattle.aol_model_types.specs.Rules.{task_named, inputs_of, outputs_of, port_shape, part_named, same_part, from_shape, to_shape}
 use Rattle.aol_flat.proofs.Find.{and_then_some}
-use Rattle.aol_flat.proofs.Names.{both-true, same-self, same-equal}
-use Rattle.aol_flat.proofs.Sites.{find-passes}
+use Rattle.aol_flat.proofs.Names.{same-self, same-equal}
 use Rattle.aol_change.specs.declared.tasks.Side.TheVariants.{Inputs, Outputs}
 use Rattle.aol_fusion_parts.specs.Changed.{first_goes, changed_from, moved_to, second_to, changed_part, fused_compound}
 use Rattle.aol_fusion_parts.specs.Joined.{task_of_part, is_end_of, is_joined}
@@ -21,7 +20,7 @@ use Rattle.aol_fusion_parts.specs.Ports.{renamed, name_among, unjoined_ports}
 use Rattle.aol_fusion_laws.proofs.Fresh.{AreFresh, names_of}
 use Rattle.aol_fusion_laws.proofs.Renamed.{renamed_shape}
 use Rattle.aol_fusion_rules.proofs.Flat.{only_one, not_one, find_flat}
-use Rattle.aol_fusion_rules.proofs.NewNumbers.{first_renamed, second_renamed, unjoined_shape, other_name}
+use Rattle.aol_fusion_rules.proofs.NewNumbers.{first_renamed, second_renamed, unjoined_shape}
 
 -- what is known of a compound and of the new list of tasks, in which the fused repetition is found
 pub record IsFusion (ts us : List Task) (args : FuseArgs) (c : Compound) (one two : Repeated) (whole : List ℕ) : Type 0 where

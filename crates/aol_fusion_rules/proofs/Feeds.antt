@@ -1,6 +1,6 @@
 -- What feeds the ends in a compound whose parts are fused.
-use Rattle.std.proofs.Common.{◌≡◌, ℕ, ◌+◌, ◌≤◌, Bool, true, false, cond, not, ◌&&◌, ◌||◌, ◌==◌, nat_le, List, [], ◌∷◌, ◌++◌, length, map, Option, Some, None, is_some, option_map, unwrap_or, sym, ◌∙◌, ap, refl, arith, subst}
-use Rattle.std.specs.List.{IsAmong, list_all, list_any, count_by}
+use Rattle.std.proofs.Common.{◌≡◌, ℕ, ◌+◌, ◌≤◌, Bool, true, false, cond, ◌&&◌, ◌||◌, ◌==◌, nat_le, List, [], ◌∷◌, ◌++◌, length, map, Option, Some, None, is_some, option_map, unwrap_or, sym, ◌∙◌, ap, refl, arith}
+use Rattle.std.specs.List.{IsAmong, list_all, count_by}
 use Rattle.std.proofs.lemmas.Bool.{eqb-true}
 use Rattle.aol_shape.specs.Lists.{same}
 use Rattle.aol_expr_tree.specs.declared.port.Port.{Port}
@@ -16,21 +16,20 @@ use Rattle.aol_model_types.specs.declared.task.Repeated.{Repeated}
 use Rattle.aol_model_types.specs.declared.task.Task.{Task}
 use Rattle.aol_model_types.specs.declared.task.Task.TheVariants as tasks
 use Rattle.aol_model_types.specs.Places.{to_key}
-use Rattle.aol_model_types.specs.Rules.{task_named, inputs_of, inputs_named, port_shape, part_named, same_part, same_hook, same_shapes, from_shape, to_shape, is_fed, part_is_fed, plain_checks, copied_checks, gives, takes, meets_part, joins_equal, hands_up_once, source_fits, target_fits}
+use Rattle.aol_model_types.specs.Rules.{task_named, inputs_of, inputs_named, port_shape, part_named, same_part, same_hook, same_shapes, from_shape, to_shape, is_fed, part_is_fed, plain_checks, copied_checks, gives, takes, meets_part, joins_equal}
 use Rattle.aol_flat.proofs.Checked.{HoldsOfCompound, member, fed_checks, named_port}
-use Rattle.aol_flat.proofs.Different.{Hold}
 use Rattle.aol_flat.proofs.Find.{and_then_some}
 use Rattle.aol_flat.proofs.Names.{both-true, same-self, same-equal}
 use Rattle.aol_flat.proofs.Once.{all_at, counted, found_among, one_feeds}
 use Rattle.aol_flat.proofs.Sites.{find-passes}
 use Rattle.aol_flat.proofs.Truth.{both}
 use Rattle.aol_change.specs.declared.tasks.Side.TheVariants.{Inputs}
-use Rattle.aol_fusion_parts.specs.Changed.{first_goes, changed_from, moved_to, second_to, changed_to, changed_link, changed_reshape, plain_to, copied_to}
+use Rattle.aol_fusion_parts.specs.Changed.{changed_from, moved_to, second_to, changed_to, changed_link, changed_reshape, plain_to, copied_to}
 use Rattle.aol_fusion_parts.specs.Joined.{is_end_of, is_joint, is_joined, task_of_part}
 use Rattle.aol_fusion_parts.specs.Ports.{name_among}
 use Rattle.aol_fusion_laws.proofs.Wired.{count_map, there_any}
 use Rattle.aol_paving.proofs.Members.{any_there}
-use Rattle.aol_fusion_rules.proofs.Ends.{IsFusion, at, new, unjoined, goes, end_is, first_shape, second_shape}
+use Rattle.aol_fusion_rules.proofs.Ends.{IsFusion, new, unjoined, goes, end_is, first_shape, second_shape}
 use Rattle.aol_fusion_rules.proofs.Flat.{count_one, count_pair, count_flat, two_counted}
 use Rattle.aol_fusion_rules.proofs.NewNumbers.{same_among, apart_among, unjoined_shape, other_name}
 

@@ -1,5 +1,5 @@
 -- Lists in which each member gives way to some.
-use Rattle.std.proofs.Common.{◌≡◌, ℕ, ◌+◌, Bool, true, false, cond, ◌&&◌, ◌||◌, not, List, [], ◌∷◌, ◌++◌, flat_map, find, Option, Some, None, option_map, sym, ◌∙◌, ap, refl, arith, subst, ◌≤◌, zero, suc, append_assoc}
+use Rattle.std.proofs.Common.{◌≡◌, ℕ, ◌+◌, Bool, true, false, cond, ◌&&◌, ◌||◌, not, List, [], ◌∷◌, ◌++◌, flat_map, find, Some, None, option_map, sym, ◌∙◌, ap, refl, arith, subst, ◌≤◌, suc, append_assoc}
 use Rattle.std.specs.Option.{option_or}
 use Rattle.std.specs.List.{IsAmong, list_any, count_by}
 use Rattle.std.proofs.lemmas.List.{append-nil}

@@ -1,7 +1,7 @@
 -- Tasks in the front of a model's list, and after new ones.
-use Rattle.std.proofs.Common.{◌≡◌, ℕ, zero, suc, ◌+◌, ◌<◌, ◌^◌, Bool, true, false, cond, ◌||◌, List, [], ◌∷◌, ◌++◌, length, map, find, slice_get, Option, Some, None, is_some, is_none, sym, ◌∙◌, ap, refl, arith, subst}
+use Rattle.std.proofs.Common.{◌≡◌, ℕ, ◌+◌, Bool, true, false, cond, List, [], ◌∷◌, ◌++◌, find, Option, Some, None, is_some, is_none, sym, ◌∙◌, ap, refl, subst}
 use Rattle.std.specs.Option.{option_or}
-use Rattle.std.specs.List.{IsAmong, position_or_len}
+use Rattle.std.specs.List.{position_or_len}
 use Rattle.std.proofs.lemmas.List.Folds.{find-append, find_at}
 use Rattle.aol_shape.specs.Lists.{same}
 use Rattle.aol_model_types.specs.declared.document.Model.{Model}
@@ -11,10 +11,10 @@ use Rattle.aol_model_types.specs.declared.task.Repeated.{Repeated}
 use Rattle.aol_model_types.specs.declared.task.Task.{Task}
 use Rattle.aol_model_types.specs.declared.task.Task.TheVariants as tasks
 use Rattle.aol_model_types.specs.Places.{to_key, to_index}
-use Rattle.aol_model_types.specs.Rules.{ShapesAgree, check, each, each_from, task_checks, kind_checks, is_new_task, is_earlier_task, main_is_task, task_name, task_named}
+use Rattle.aol_model_types.specs.Rules.{ShapesAgree, check, each, each_from, task_checks, kind_checks, is_new_task, main_is_task, task_name, task_named}
 use Rattle.aol_flat.proofs.Checked.{member_at, of_repeated}
 use Rattle.aol_flat.proofs.Different.{Hold, hold-parts}
-use Rattle.aol_flat.proofs.Names.{both-true, same-self, same-equal}
+use Rattle.aol_flat.proofs.Names.{both-true, same-self}
 use Rattle.aol_flat.proofs.Once.{there}
 use Rattle.aol_change.specs.Change.{is_taken}
 use Rattle.aol_change.proofs.ChangedChecks.{each-split}

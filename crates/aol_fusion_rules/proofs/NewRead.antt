@@ -258,25 +258,25 @@ pair_read n picks block picked free outs named in_read out_read few_picked some 
         out_count = omega (arith, few);
         part_count = omega arith;
         link_count = (
-        let a = length_links_in (codes "first") 0 block in
-        let b = length_links_in (codes "second") (length block) free in
-        let c = few_picks picks picked in
-        let d = few_out 0 outs in
-        omega (
-          arith,
-          a,
-          b,
-          c,
-          d,
-          few,
-          i,
-          o,
-          few_picked,
-          length-append block free,
-          length-append (links_in (codes "first") 0 block ++ links_in (codes "second") (length block) free ++ pick_links picks picked) (links_out 0 outs),
-          length-append (links_in (codes "first") 0 block ++ links_in (codes "second") (length block) free) (pick_links picks picked),
-          length-append (links_in (codes "first") 0 block) (links_in (codes "second") (length block) free),
-        ));
+            let a = length_links_in (codes "first") 0 block in
+            let b = length_links_in (codes "second") (length block) free in
+            let c = few_picks picks picked in
+            let d = few_out 0 outs in
+            omega (
+              arith,
+              a,
+              b,
+              c,
+              d,
+              few,
+              i,
+              o,
+              few_picked,
+              length-append block free,
+              length-append (links_in (codes "first") 0 block ++ links_in (codes "second") (length block) free ++ pick_links picks picked) (links_out 0 outs),
+              length-append (links_in (codes "first") 0 block ++ links_in (codes "second") (length block) free) (pick_links picks picked),
+              length-append (links_in (codes "first") 0 block) (links_in (codes "second") (length block) free),
+            ));
         reshape_count = omega arith;
       };
       names = names_hold n.pair (renamed Inputs 0 (block ++ free)) (renamed Outputs 0 outs) (codes "first" ∷ codes "second" ∷ []) named ins out refl;

@@ -1,14 +1,11 @@
 -- The fused model of a sound one is sound.
-use Rattle.std.proofs.Common.{◌≡◌, ℕ, zero, suc, ◌+◌, ◌<◌, ◌≤◌, ◌^◌, Bool, true, false, cond, not, ◌&&◌, ◌||◌, ◌==◌, nat_lt, List, [], ◌∷◌, ◌++◌, length, map, filter, find, Option, Some, None, is_some, is_none, option_and_then, if◌then◌else◌, sym, ◌∙◌, ap, refl, arith, subst, ◌⊎◌, inl, inr}
-use Rattle.std.specs.Option.{option_or}
-use Rattle.std.specs.List.{IsAmong, AllByRecursion, list_all, list_any}
-use Rattle.std.proofs.lemmas.Bool.{eqb-true, ltb-true}
+use Rattle.std.proofs.Common.{◌≡◌, ℕ, ◌+◌, ◌<◌, ◌≤◌, ◌^◌, Bool, true, false, not, ◌&&◌, ◌||◌, ◌==◌, List, [], ◌∷◌, ◌++◌, length, map, Option, Some, None, is_some, is_none, option_and_then, if◌then◌else◌, sym, ◌∙◌, ap, refl, arith, subst, ◌⊎◌, inl, inr}
+use Rattle.std.specs.List.{IsAmong, AllByRecursion, list_all}
+use Rattle.std.proofs.lemmas.Bool.{ltb-true}
 use Rattle.std.proofs.lemmas.List.{length-map}
-use Rattle.std.proofs.lemmas.List.Folds.{find-append}
 use Rattle.aol_shape.specs.declared.limit.LimitName.{LimitName}
 use Rattle.aol_shape.specs.Lists.{same}
 use Rattle.aol_shape.specs.Shape.{IsShape}
-use Rattle.aol_shape.specs.Texts.{is_name}
 use Rattle.aol_tiler.specs.Tiler.{fits}
 use Rattle.aol_expr_tree.specs.declared.port.Port.{Port}
 use Rattle.aol_model_types.specs.declared.document.Model.{Model}
@@ -19,13 +16,11 @@ use Rattle.aol_model_types.specs.declared.place.PlaceStep.{PlaceStep}
 use Rattle.aol_model_types.specs.declared.task.Compound.{Compound}
 use Rattle.aol_model_types.specs.declared.task.OutPort.{OutPort}
 use Rattle.aol_model_types.specs.declared.task.Part.{Part}
-use Rattle.aol_model_types.specs.declared.task.Plain.{Plain}
 use Rattle.aol_model_types.specs.declared.task.Repeated.{Repeated}
 use Rattle.aol_model_types.specs.declared.task.Task.{Task}
 use Rattle.aol_model_types.specs.declared.task.Task.TheVariants as tasks
-use Rattle.aol_model_types.specs.declared.task.TilerOn.{TilerOn}
 use Rattle.aol_model_types.specs.Places.{to_key}
-use Rattle.aol_model_types.specs.Rules.{each, each_from, task_checks, kind_checks, part_checks, is_new_task, is_new_part, is_earlier_task, task_name, task_named, part_named, port_shape, inputs_of, outputs_of}
+use Rattle.aol_model_types.specs.Rules.{each_from, task_checks, part_checks, is_new_task, is_new_part, is_earlier_task, task_name, task_named, part_named, port_shape, inputs_of, outputs_of}
 use Rattle.aol_model_types.specs.Types.{IsPort, IsPick, IsTask, IsReadPort, IsReadTask}
 use Rattle.aol_flat.specs.Accept.{IsSound}
 use Rattle.aol_flat.specs.Home.{tiler_at}
@@ -48,7 +43,7 @@ use Rattle.aol_change.proofs.Room.{neither_limit}
 use Rattle.aol_fusion_parts.specs.declared.ports.FusedNames.{FusedNames}
 use Rattle.aol_fusion_parts.specs.declared.ports.FusedPorts.{FusedPorts}
 use Rattle.aol_fusion_parts.specs.Changed.{fused_compound}
-use Rattle.aol_fusion_parts.specs.Fuse.{Fusing, fusing, fused_parts, fused_task, fused_ports, new_tasks, fused_model, fuse_limit, tasks_limit, is_formed, block_ins}
+use Rattle.aol_fusion_parts.specs.Fuse.{Fusing, fusing, fused_parts, fused_task, fused_ports, new_tasks, fused_model, fuse_limit, tasks_limit, is_formed}
 use Rattle.aol_fusion_parts.specs.Joined.{task_of_part, are_joined, is_joined, is_picked, is_picked_once, pick_fits, is_source, fits_block, is_well_formed}
 use Rattle.aol_fusion_parts.specs.Made.{fused_names, names_limit, over_space, over_limit, block_of_first, block_limit, once_port, once_of_second, once_limit, pair_of_both, pair_limit}
 use Rattle.aol_fusion_parts.specs.Ports.{sources, tiled_ports, picked_ports, unpicked_ports, unjoined_ports}
@@ -59,16 +54,16 @@ use Rattle.aol_fusion_laws.proofs.Fresh.{AreFresh, names_of, task_fresh, fresh_p
 use Rattle.aol_fusion_laws.proofs.PairKept.{pair_keeps_rules}
 use Rattle.aol_fusion_laws.proofs.RulesKept.{block_keeps_rules, once_keeps_rules, whole_keeps_rules}
 use Rattle.aol_fusion_laws.proofs.SameNames.{filter_among, among_filter}
-use Rattle.aol_fusion_laws.proofs.TilersOf.{FitsSide, input_fit, output_tiled}
+use Rattle.aol_fusion_laws.proofs.TilersOf.{input_fit, output_tiled}
 use Rattle.aol_fusion_laws.proofs.Wired.{there_any}
-use Rattle.aol_paving.proofs.Members.{all_among, one_of_all}
+use Rattle.aol_paving.proofs.Members.{one_of_all}
 use Rattle.aol_paving.proofs.ReadPorts.{task_read, own_name}
 use Rattle.aol_paving.proofs.Sound.{no_links}
 use Rattle.aol_fusion_rules.specs.Sound.{is_countable, FusedIsSound}
 use Rattle.aol_fusion_rules.proofs.ChangedKept.{changed_holds}
 use Rattle.aol_fusion_rules.proofs.Ends.{IsFusion}
-use Rattle.aol_fusion_rules.proofs.Fronts.{front_holds, StandsIn, stands_in, found_left, OldInner, old_inner_of, more_kept, more_own, more_none, next_holds}
-use Rattle.aol_fusion_rules.proofs.Names.{AreNewNames, IsNewName, are_new_names, new_task_apart, not_named}
+use Rattle.aol_fusion_rules.proofs.Fronts.{front_holds, OldInner, old_inner_of, more_kept, more_own, more_none, next_holds}
+use Rattle.aol_fusion_rules.proofs.Names.{AreNewNames, are_new_names, new_task_apart, not_named}
 use Rattle.aol_fusion_rules.proofs.NewRead.{old_input, old_output, over_read, block_read, once_read, pair_read, whole_read, changed_read, ports_few}
 
 -- what is known of a fusion that has a model

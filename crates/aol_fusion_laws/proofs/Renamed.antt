@@ -14,7 +14,7 @@ use Rattle.aol_fusion_parts.specs.Ports.{port_name, renamed, port_number}
 use Rattle.aol_fusion_laws.proofs.Fresh.{AreFresh, names_of, both_fresh, not_either, name_listed, taken_apart, taken_first}
 
 -- two numbers give two names
-number_of_name : (side : Side) (j k : ℕ) → j < 2 ^ 64 → k < 2 ^ 64 → port_name side j ≡ port_name side k → j ≡ k
+pub number_of_name : (side : Side) (j k : ℕ) → j < 2 ^ 64 → k < 2 ^ 64 → port_name side j ≡ port_name side k → j ≡ k
 number_of_name Inputs j k few small e = (let d : decimal j ≡ decimal k = cc in decimal_injective j k few small d)
 number_of_name Outputs j k few small e = (let d : decimal j ≡ decimal k = cc in decimal_injective j k few small d)
 

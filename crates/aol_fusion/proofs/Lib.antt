@@ -1,0 +1,10 @@
+pub mod Comes
+pub mod FlatKept
+pub mod LeafComes
+pub mod Lookups
+pub mod ManyLeaves
+pub mod MapMade
+pub mod NodeComes
+pub mod NodeSteps
+pub mod PlacedNumbers
+pub mod Told

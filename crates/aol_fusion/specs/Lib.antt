@@ -1,0 +1,4 @@
+pub mod Closed
+pub mod Map
+pub mod Numbers
+pub mod Told

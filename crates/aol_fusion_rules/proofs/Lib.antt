@@ -1,0 +1,10 @@
+pub mod ChangedKept
+pub mod Ends
+pub mod Feeds
+pub mod Flat
+pub mod Fronts
+pub mod Names
+pub mod NewNumbers
+pub mod NewRead
+pub mod PortNames
+pub mod Sound

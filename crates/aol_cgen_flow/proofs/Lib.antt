@@ -1,0 +1,12 @@
+pub mod Lists
+pub mod Many
+pub mod Cells
+pub mod LeafTasks
+pub mod Below
+pub mod Defaults
+pub mod ValueFits
+pub mod InstanceFits
+pub mod FlowFits
+pub mod Flowing
+pub mod Closing
+pub mod Running

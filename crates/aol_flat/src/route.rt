@@ -283,7 +283,9 @@ fn inputs_fit(task: &Task, k: u32, routes: &[Route]) -> bool
     match routes.split_first() {
         None => k >= count,
         Some((route, later)) => {
-            k < count && route.known && route.cells.len() == input(task, k).shape.size() as usize
+            k < count
+                && route.known
+                && route.cells.len() == input(task, k).shape.size() as usize
                 && inputs_fit(task, k + 1, later)
         }
     }
@@ -298,7 +300,9 @@ fn outputs_fit(task: &Task, k: u32, routes: &[Route]) -> bool
     match routes.split_first() {
         None => k >= count,
         Some((route, later)) => {
-            k < count && route.known && route.cells.len() == output(task, k).shape.size() as usize
+            k < count
+                && route.known
+                && route.cells.len() == output(task, k).shape.size() as usize
                 && outputs_fit(task, k + 1, later)
         }
     }

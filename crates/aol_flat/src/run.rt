@@ -31,10 +31,7 @@ fn stretch_of(trail: &Trail<'_>, at: &[u32], many: u32, most: u32) -> Stretch
     for x in 1..many {
         let own = trail.stretch(at, x, room);
         if own.stride != first.stride {
-            return Stretch {
-                stride: 0,
-                room: 0,
-            };
+            return Stretch { stride: 0, room: 0 };
         }
         room = own.room;
     }
